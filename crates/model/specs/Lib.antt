@@ -1,2 +1,10 @@
 pub mod Lists
 pub mod Cells
+pub mod Occupancy
+pub mod Flood
+pub mod Groups
+pub mod Update
+pub mod Questions
+pub mod Consistent
+pub mod Cases
+pub mod Theorems

@@ -90,13 +90,11 @@ module _ {A B : Type 0} where
 module _ {K W : Type 0} where
   -- The keys of a table.
   abbrev pub keys : List (K × W) → List K
-  keys [] = []
-  keys (p ∷ ps) = p .0 ∷ keys ps
+  keys = each (λ (p : K × W). p .0)
 
   -- The values of a table.
   abbrev pub values : List (K × W) → List W
-  values [] = []
-  values (p ∷ ps) = p .1 ∷ values ps
+  values = each (λ (p : K × W). p .1)
 
   -- What stands under a key.
   abbrev pub get : (K → K → Bool) → List (K × W) → K → Option W
@@ -118,8 +116,7 @@ module _ {K W : Type 0} where
 
   -- The table with each value changed by a rule of its key and itself.
   abbrev pub change : (K → W → W) → List (K × W) → List (K × W)
-  change f [] = []
-  change f (p ∷ ps) = (p .0, f (p .0) (p .1)) ∷ change f ps
+  change f = each (λ (p : K × W). (p .0, f (p .0) (p .1)))
 
 -- The numbers k, k + 1, and so on, n of them.
 abbrev pub count : ℕ → ℕ → List ℕ

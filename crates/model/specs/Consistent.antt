@@ -1,0 +1,99 @@
+-- What consistent means: the eight points of document 01 in its order, and their conjunction. Strictly ascending rows belong to
+-- them: entity rows to point 1, cell rows to point 2, group rows to point 5, net lists to point 8.
+use Prim.Native.Nat.{ℕ}
+use mathlib.Core.Bool.{Bool, true, false, cond, _&&_, not}
+use mathlib.Core.List.{List, [], _∷_, _++_}
+use lib.Dec.{eqb, leb, ltb}
+use lib.ListN.{length}
+use Rattle.model.specs.Lists.{keep, all, has, without, equal, distinct, ascending, isAscending, keys, values}
+use Rattle.model.specs.Cells.{Cell, same, below, cellInRange}
+use Rattle.model.specs.Occupancy.{Occupancy, occupied}
+use Rattle.model.specs.Groups.{Ids, Groups, Group, Corner, part, records}
+use Rattle.model.specs.Update.{State, mostEntities, mostCells}
+
+-- 1. Entities distinct, they and the occupied cells within number.
+abbrev pub withinNumber : State → Bool
+withinNumber s =
+    isAscending ltb (keys (s .occupancy .entities))
+    && (leb (length (s .occupancy .entities)) mostEntities && leb (length (occupied (s .occupancy))) mostCells)
+
+-- The cells that an entity stands in, ascending.
+abbrev pub standing : State → List Cell
+standing s = ascending below (values (s .occupancy .entities))
+
+-- 2. The cells with an id, each held once, are exactly those an entity stands in; so are the occupied cells.
+abbrev pub cellsExact : State → Bool
+cellsExact s = equal same (keys (s .groups .ids)) (standing s) && equal same (occupied (s .occupancy)) (standing s)
+
+module _ (touch : Cell → Cell → Bool) where
+  -- Whether a list holds every touching occupied cell once and no other.
+  abbrev pub listExact : List Cell → Cell → List Cell → Bool
+  listExact cells c l =
+      distinct same l && (all (λ d. touch c d && has same cells d) l && all (has same l) (keep (touch c) cells))
+
+  -- 3. Each list holds every touching occupied cell once and no other.
+  abbrev pub listsExact : State → Bool
+  listsExact s = all (λ (p : Cell × List Cell). listExact (occupied (s .occupancy)) (p .0) (p .1)) (s .occupancy .lists)
+
+  -- Whether b is joined to a through the cells.
+  abbrev pub joinedIn : List Cell → Cell → Cell → Bool
+  joinedIn cells a b = has same (part touch a (without same a cells)) b
+
+  -- Whether two tests agree.
+  abbrev pub agree : Bool → Bool → Bool
+  agree p q = cond p q (not q)
+
+  -- 4. Ids shared exactly by joined cells.
+  abbrev pub idsShared : State → Bool
+  idsShared s =
+      let ids : Ids = s .groups .ids in
+      all (λ (p : Cell × ℕ). all (λ (q : Cell × ℕ). agree (eqb (p .1) (q .1)) (joinedIn (keys ids) (p .0) (q .0))) ids) ids
+
+-- Whether two corners are the same.
+abbrev pub sameCorner : Corner → Corner → Bool
+sameCorner p q = eqb (p .x) (q .x) && (eqb (p .y) (q .y) && eqb (p .z) (q .z))
+
+-- Whether two group records are the same.
+abbrev pub sameRecord : ℕ × Group → ℕ × Group → Bool
+sameRecord p q =
+    eqb (p .0) (q .0)
+    && (eqb (p .1 .grid) (q .1 .grid)
+    && (eqb (p .1 .count) (q .1 .count)
+    && (sameCorner (p .1 .low) (q .1 .low) && sameCorner (p .1 .high) (q .1 .high))))
+
+-- 5. One group record for each id that a cell has and no other, its grid, corners and counts exact.
+abbrev pub recordsExact : State → Bool
+recordsExact s = equal sameRecord (s .records) (records (s .groups .ids))
+
+-- 6. Every id below the next id.
+abbrev pub idsBelowNext : State → Bool
+idsBelowNext s = all (λ g. ltb g (s .groups .next)) (values (s .groups .ids))
+
+-- 7. Coordinates in range.
+abbrev pub coordinatesInRange : State → Bool
+coordinatesInRange s =
+    all cellInRange (values (s .occupancy .entities))
+    && (all cellInRange (s .occupancy .newlyOccupied) && all cellInRange (s .occupancy .newlyEmptied))
+
+-- 8. Net lists strictly ascending, at most 1,024 cells each, the first occupied, the second not.
+abbrev pub netsInOrder : State → Bool
+netsInOrder s =
+    let o : Occupancy = s .occupancy in
+    isAscending below (o .newlyOccupied)
+    && (isAscending below (o .newlyEmptied)
+    && (leb (length (o .newlyOccupied)) mostCells
+    && (leb (length (o .newlyEmptied)) mostCells
+    && (all (has same (occupied o)) (o .newlyOccupied)
+    && all (λ c. not (has same (occupied o) c)) (o .newlyEmptied)))))
+
+-- All eight.
+abbrev pub consistent : (Cell → Cell → Bool) → State → Bool
+consistent touch s =
+    withinNumber s
+    && (cellsExact s
+    && (listsExact touch s
+    && (idsShared touch s
+    && (recordsExact s
+    && (idsBelowNext s
+    && (coordinatesInRange s
+    && netsInOrder s))))))

@@ -1,0 +1,46 @@
+-- Asking: what each question answers, as values. What is not found is `none`, or a list with `found` false.
+use Prim.Native.Nat.{ℕ, _+_, _-_, _*_, _/_, _%_, suc}
+use mathlib.Core.Bool.{Bool, true, false, cond}
+use mathlib.Core.List.{List, [], _∷_, _++_}
+use mathlib.Core.Option.{Option, none, some}
+use lib.Dec.{eqb}
+use Rattle.model.specs.Lists.{keep, has, each, keys, get, count}
+use Rattle.model.specs.Cells.{Cell, same}
+use Rattle.model.specs.Occupancy.{Occupancy, occupied, standsIn}
+use Rattle.model.specs.Flood.{listOf}
+use Rattle.model.specs.Groups.{Group}
+use Rattle.model.specs.Update.{State}
+
+-- A list answer: whether what was asked for was found, and the list.
+pub record Listed (A : Type 0) : Type 0 where
+  pub found : Bool
+  pub list : List A
+
+-- Where an entity stands.
+abbrev pub whereIs : State → ℕ → Option Cell
+whereIs s e = get eqb (s .occupancy .entities) e
+
+-- A cell's entities, ascending.
+abbrev pub entitiesIn : State → Cell → Listed ℕ
+entitiesIn s c =
+    record {
+      found = has same (occupied (s .occupancy)) c;
+      list = keys (keep (λ (p : ℕ × Cell). same c (p .1)) (s .occupancy .entities)) }
+
+-- A cell's id.
+abbrev pub idOf : State → Cell → Option ℕ
+idOf s c = get same (s .groups .ids) c
+
+-- A group by id.
+abbrev pub groupBy : State → ℕ → Option Group
+groupBy s g = get eqb (s .records) g
+
+-- The ids, ascending.
+abbrev pub idList : State → List ℕ
+idList s = keys (s .records)
+
+-- Nearby: the cell, then its list in list order.
+abbrev pub nearby : State → Cell → Listed Cell
+nearby s c =
+    let found : Bool = has same (occupied (s .occupancy)) c in
+    record { found = found; list = cond found (c ∷ listOf (s .occupancy .lists) c) [] }
