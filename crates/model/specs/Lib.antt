@@ -7,4 +7,6 @@ pub mod Update
 pub mod Questions
 pub mod Consistent
 pub mod Cases
+pub mod Paths
+pub mod Laws
 pub mod Theorems
