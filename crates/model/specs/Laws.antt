@@ -2,5 +2,6 @@ pub mod Tests
 pub mod Orders
 pub mod Members
 pub mod Sorted
-pub mod Walks
+pub mod Tables
 pub mod Touching
+pub mod Walks

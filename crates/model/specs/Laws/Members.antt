@@ -3,13 +3,13 @@ use Prim.Native.Nat.{ℕ, zero, suc, _+_, _≤_, _<_}
 use native.Mathlib.Omega.{arith}
 use mathlib.Core.Path.{_≡_, refl, sym, _∙_, ap, subst}
 use mathlib.Core.Logic.{_⊎_, inl, inr, ⊎-elim}
-use mathlib.Core.Bool.{Bool, true, false, cond, _&&_, _||_, not}
+use mathlib.Core.Bool.{Bool, true, false, cond, _&&_, not}
 use mathlib.Core.List.{List, [], _∷_, _++_, append-assoc, List·Memᴰ as Mem, List·Memᴰ·head as head, List·Memᴰ·tail as tail, List·Memᴰ·cases-cons as mem-cons, List·Memᴰ·not-nil as mem-nil, Memᴰ·cast as mem-cast, Memᴰ·append-left as append-left, Memᴰ·append-right as append-right, List·Memᴰ·append-cases as append-cases}
 use lib.Dec.{T, T-not, not-T}
 use lib.ListN.{length}
 use Rattle.model.specs.Lists.{keep, any, all, has, without, equal, distinct, whilst, each, gather, run, keys, count}
-use Rattle.model.specs.Laws.Tests.{and-fst, and-snd, and-both, or-cases, or-left, or-right, or-not, or-neither, true-of, false-of, decided, cond-yes, cond-no}
-use Rattle.model.specs.Laws.Orders.{Ordered, same-of, is-or, differ, differs}
+use Rattle.model.specs.Laws.Tests.{and-fst, and-snd, and-both, or-cases, or-left, or-right, decided, cond-yes, cond-no}
+use Rattle.model.specs.Laws.Orders.{Ordered, is-or, differ, differs, numbers}
 
 -- What one test leaves of a list.
 module _ {A : Type 0} (p : A → Bool) where
@@ -151,6 +151,7 @@ module _ {A : Type 0} (p q : A → Bool) where
   all-ext [] f = refl
   all-ext (x ∷ xs) f = rw (f x (head refl), all-ext xs (λ a m. f a (tail m)))
 
+-- A conjunction in the other order.
 and-swap : (a b : Bool) → (a && b) ≡ (b && a)
 and-swap true true = refl
 and-swap true false = refl
@@ -248,10 +249,7 @@ count-length k (suc n) = ap suc (count-length (suc k) n)
 -- The numbers from k to below k + n are counted.
 pub count-in : (k n : ℕ) {i : ℕ} → k ≤ i → i < k + n → Mem i (count k n)
 count-in k zero h j = absurd (omega arith)
-count-in k (suc n) {i} h j = ⊎-elim (λ e. head (sym e)) (λ d. tail (count-in (suc k) n (omega arith) (omega arith))) (le-cases k i h)
-  where
-    le-cases : (a b : ℕ) → a ≤ b → (a ≡ b) ⊎ (a < b)
-    le-cases a b g = ⊎-elim (λ t. inl (lib.Dec.eqb→eq a b t)) (λ t. let n : a ≡ b → ⊥ = λ e. T-not (lib.Dec.eqb a b) t (subst (λ c. T (lib.Dec.eqb a c)) e (lib.Dec.eqb-refl a)) in inr (omega arith)) (decided (lib.Dec.eqb a b))
+count-in k (suc n) {i} h j = ⊎-elim (λ e. head (sym e)) (λ d. tail (count-in (suc k) n (omega arith) (omega arith))) (is-or numbers k i)
 
 -- What is counted is at least k and below k + n.
 pub count-out : (k n : ℕ) {i : ℕ} → Mem i (count k n) → (k ≤ i) × (i < k + n)
@@ -362,6 +360,13 @@ module _ {K : Type 0} {eq lt : K → K → Bool} (laws : Ordered eq lt) where
   -- To leave out what is no member changes nothing.
   pub without-none : (x : K) (l : List K) → (Mem x l → ⊥) → without eq x l ≡ l
   without-none x l n = keep-all (λ b. not (eq x b)) l (λ a m. differ laws (λ e. n (mem-cast e m)))
+
+  -- To leave out one of members that come once leaves one fewer.
+  pub without-length : {x : K} {l : List K} → Once l → Mem x l → suc (length (without eq x l)) ≡ length l
+  without-length {x} (once-cons {a} {l} n o) m =
+      ⊎-elim (λ e. ap (λ k. suc (length k)) (keep-no (λ b. not (eq x b)) a l (not-T (not (eq x a)) (λ t. differs laws x a t e)) ∙ without-none x l (λ k. n (mem-cast (sym e) k))))
+      (λ k. ap (λ j. suc (length j)) (keep-yes (λ b. not (eq x b)) a l (differ laws (λ e. n (mem-cast (sym e) k)))) ∙ ap suc (without-length o k)) (mem-cons m)
+  without-length once-nil m = absurd (mem-nil m)
 
   -- A list that passes the test has no member twice.
   pub distinct-out : (l : List K) → T (distinct eq l) → Once l

@@ -1,9 +1,9 @@
 -- Strict total orders and equality as Bool tests, with those of numbers and of cells.
-use Prim.Native.Nat.{ℕ, _≤_, _<_}
+use Prim.Native.Nat.{ℕ, _<_}
 use native.Mathlib.Omega.{arith}
-use mathlib.Core.Path.{_≡_, refl, sym, _∙_, ap, subst}
+use mathlib.Core.Path.{_≡_, sym, _∙_, subst}
 use mathlib.Core.Logic.{_⊎_, inl, inr, ⊎-elim}
-use mathlib.Core.Bool.{Bool, true, false, _&&_, _||_, not}
+use mathlib.Core.Bool.{Bool, _&&_, not}
 use lib.Dec.{T, T-not, not-T, eqb, eqb→eq, eqb-refl, ltb, ltb→lt, lt→ltb, nltb→le}
 use Rattle.component.specs.Order.{before}
 use Rattle.model.specs.Cells.{Cell, same, below}
@@ -56,9 +56,11 @@ numbers =
       trans = λ a b c s t. lt→ltb a c (omega (arith, ltb→lt a b s, ltb→lt b c t));
       tri = λ a b s t. omega (arith, nltb→le a b s, nltb→le b a t) }
 
+-- Between equal numbers the rest decides.
 before-self : (m : ℕ) (r : Bool) → T (before m m r) → T r
 before-self m r t = ⊎-elim (λ u. absurd (numbers .irrefl m u)) (λ u. and-snd (eqb m m) r u) (or-cases (ltb m m) _ t)
 
+-- The order by a number and then by the rest is transitive if the rest is.
 before-trans : (l m n : ℕ) (r r′ r″ : Bool) → (T r → T r′ → T r″) → T (before l m r) → T (before m n r′) → T (before l n r″)
 before-trans l m n r r′ r″ f s t =
     ⊎-elim
@@ -71,6 +73,7 @@ before-trans l m n r r′ r″ f s t =
     small : l < n → T (before l n r″)
     small h = or-left (ltb l n) _ (lt→ltb l n h)
 
+-- If neither comes first, the numbers are equal and the rest fails both ways.
 before-tri : (m n : ℕ) (r r′ : Bool) → T (not (before m n r)) → T (not (before n m r′)) → (m ≡ n) × T (not r) × T (not r′)
 before-tri m n r r′ s t = (e, and-not (eqb m n) r (same-of numbers e) (s′ .1), and-not (eqb n m) r′ (same-of numbers (sym e)) (t′ .1))
   where
@@ -81,6 +84,7 @@ before-tri m n r r′ s t = (e, and-not (eqb m n) r (same-of numbers e) (s′ .1
     e : m ≡ n
     e = numbers .tri m n (s′ .0) (t′ .0)
 
+-- Cells that pass the test of equality are equal.
 cell-eq : (a b : Cell) → T (same a b) → a ≡ b
 cell-eq a b t = λ i. record { grid = g i; x = x i; y = y i; z = z i }
   where
@@ -97,11 +101,13 @@ cell-eq a b t = λ i. record { grid = g i; x = x i; y = y i; z = z i }
     x : a .x ≡ b .x
     x = eqb→eq _ _ (and-snd (eqb (a .y) (b .y)) _ t2)
 
+-- A cell passes the test of equality with itself.
 cell-self : (a : Cell) → T (same a a)
 cell-self a =
     and-both (eqb (a .grid) (a .grid)) _ (eqb-refl (a .grid))
     (and-both (eqb (a .z) (a .z)) _ (eqb-refl (a .z)) (and-both (eqb (a .y) (a .y)) _ (eqb-refl (a .y)) (eqb-refl (a .x))))
 
+-- Cell order is transitive.
 below-trans : (a b c : Cell) → T (below a b) → T (below b c) → T (below a c)
 below-trans a b c =
     before-trans (a .grid) (b .grid) (c .grid) _ _ _
@@ -109,6 +115,7 @@ below-trans a b c =
     (before-trans (a .y) (b .y) (c .y) (ltb (a .x) (b .x)) (ltb (b .x) (c .x)) (ltb (a .x) (c .x))
     (λ s t. numbers .trans (a .x) (b .x) (c .x) s t)))
 
+-- Two cells of which neither is below the other are equal.
 below-tri : (a b : Cell) → T (not (below a b)) → T (not (below b a)) → a ≡ b
 below-tri a b s t = λ i. record { grid = g .0 i; x = x i; y = y .0 i; z = z .0 i }
   where

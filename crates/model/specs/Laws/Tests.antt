@@ -4,7 +4,7 @@ use native.Mathlib.Omega.{arith}
 use mathlib.Core.Path.{_≡_, refl, sym, subst}
 use mathlib.Core.Logic.{_⊎_, inl, inr}
 use mathlib.Core.Bool.{Bool, true, false, cond, _&&_, _||_, not}
-use lib.Dec.{T, eqb, eqb→eq, eqb-refl, leb, leb→le, le→leb, nleb→lt, ltb, ltb→lt, lt→ltb, nltb→le, not-T}
+use lib.Dec.{T, eqb, eqb→eq, eqb-refl, leb, leb→le, ltb, ltb→lt, T-not, not-T}
 
 -- A conjunction gives its first part.
 pub and-fst : (a b : Bool) → T (a && b) → T a
@@ -111,7 +111,7 @@ neqb-of m n f = not-T (eqb m n) (λ t. f (eqb→eq m n t))
 
 -- Numbers that fail the test of equality differ.
 pub neqb→ne : (m n : ℕ) → T (not (eqb m n)) → m ≡ n → ⊥
-neqb→ne m n t e = lib.Dec.T-not (eqb m n) t (eqb-of m n e)
+neqb→ne m n t e = T-not (eqb m n) t (eqb-of m n e)
 
 -- A number that is not above another passes as not above it.
 pub nltb-of : (m n : ℕ) → n ≤ m → T (not (ltb m n))
