@@ -8,5 +8,6 @@ pub mod Questions
 pub mod Consistent
 pub mod Cases
 pub mod Paths
+pub mod Runs
 pub mod Laws
 pub mod Theorems

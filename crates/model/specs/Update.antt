@@ -1,6 +1,5 @@
 -- The state, a fresh one, the refusals of a batch, and the update.
 use Prim.Native.Nat.{ℕ}
-use mathlib.Core.Path.{_≡_}
 use mathlib.Core.Bool.{Bool, true, false, cond, not}
 use mathlib.Core.List.{List, [], _∷_, _++_}
 use lib.Dec.{eqb, ltb}
@@ -84,8 +83,3 @@ module _ (touch : Cell → Cell → Bool) where
   update s b =
       let n : ℕ = refusal s b in
       cond (eqb n 0) (0, accepted s b) (n, s)
-
-  -- A state that a history from a fresh state leads to, each batch accepted.
-  pub data Reached : State → Type 0 where
-    start : (first : ℕ) → Reached (fresh first)
-    next : {s : State} (b : Batch) → Reached s → update s b .0 ≡ 0 → Reached (update s b .1)
