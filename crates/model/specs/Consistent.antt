@@ -25,6 +25,10 @@ standing s = ascending below (values (s .occupancy .entities))
 abbrev pub cellsExact : State → Bool
 cellsExact s = equal same (keys (s .groups .ids)) (standing s) && equal same (occupied (s .occupancy)) (standing s)
 
+-- Whether two tests agree.
+abbrev pub agree : Bool → Bool → Bool
+agree p q = cond p q (not q)
+
 module _ (touch : Cell → Cell → Bool) where
   -- Whether a list holds every touching occupied cell once and no other.
   abbrev pub listExact : List Cell → Cell → List Cell → Bool
@@ -38,10 +42,6 @@ module _ (touch : Cell → Cell → Bool) where
   -- Whether b is joined to a through the cells.
   abbrev pub joinedIn : List Cell → Cell → Cell → Bool
   joinedIn cells a b = has same (part touch a (without same a cells)) b
-
-  -- Whether two tests agree.
-  abbrev pub agree : Bool → Bool → Bool
-  agree p q = cond p q (not q)
 
   -- 4. Ids shared exactly by joined cells.
   abbrev pub idsShared : State → Bool

@@ -1,1 +1,5 @@
 pub mod Paper
+pub mod NetExact
+pub mod FloodExact
+
+

@@ -1,0 +1,103 @@
+-- A flood gives exactly the joined cells, the seed first, cut by the depth and then by the budget.
+use Prim.Native.Nat.{ℕ, _≤_}
+use native.Mathlib.Omega.{arith}
+use mathlib.Core.Path.{_≡_, refl, sym, _∙_, ap, subst}
+use mathlib.Core.Logic.{_↔_}
+use mathlib.Core.Bool.{Bool, true, not}
+use mathlib.Core.List.{List, [], _∷_, _++_, List·Memᴰ as Mem}
+use mathlib.Core.Option.{none, some}
+use lib.Dec.{T, leb, leb→le, le→leb, leb·zero}
+use lib.ListN.{length, take, drop, take-append-drop, length-take}
+use lib.Seq.{take-all, take-nil}
+use Rattle.model.specs.Lists.{whilst}
+use Rattle.model.specs.Cells.{Cell}
+use Rattle.model.specs.Occupancy.{Occupancy, occupied}
+use Rattle.model.specs.Flood.{wholeFlood, Depth, within, cutAt, flood}
+use Rattle.model.specs.Paths.{Joined}
+use Rattle.model.specs.Laws.Tests.{true-of}
+use Rattle.model.specs.Laws.Members.{Once, whilst-out, whilst-shorter}
+use Rattle.model.specs.Laws.Prefixes.{take-out, once-prefix, whilst-split}
+use Rattle.model.specs.Laws.Occupied.{Sound}
+use Rattle.model.specs.Laws.Floods.{whole-none, whole-first, whole-once, whole-out, whole-in, whole-shorter}
+
+-- A list is the whole flood of a seed: the seed comes first, no cell comes twice, and the cells that come are those that a path of
+-- touching cells among the given ones joins to the seed.
+pub record Whole (touch : Cell → Cell → Bool) (among : List Cell) (seed : Cell) (l : List Cell) : Type 0 where
+  pub starts : (rest : List Cell) × (l ≡ seed ∷ rest)
+  pub once : Once l
+  pub joined : (a : Cell) → Mem a l ↔ Joined touch among seed a
+
+-- The whole flood of an occupied seed gives exactly the cells joined to it, each once, the seed first.
+pub flood-exact : (touch : Cell → Cell → Bool) (o : Occupancy) → Sound touch o → (seed : Cell) → Mem seed (occupied o) → Whole touch (occupied o) seed (wholeFlood o seed)
+flood-exact touch o ok seed h =
+    record {
+      starts = whole-first touch o ok seed h;
+      once = whole-once touch o ok seed;
+      joined = λ a. (λ m. whole-out touch o ok seed h m .1, λ w. whole-in touch o ok seed h w) }
+
+-- An unoccupied seed gives nothing, and that was all of it.
+pub flood-nothing : (o : Occupancy) (seed : Cell) (depth : Depth) (budget : ℕ) → (Mem seed (occupied o) → ⊥) → flood o seed depth budget ≡ record { cells = []; number = 0; wasAll = true }
+flood-nothing o seed depth budget n =
+    let e : take budget (cutAt depth seed (wholeFlood o seed)) ≡ [] = ap (λ l. take budget (cutAt depth seed l)) (whole-none o seed n) ∙ ap (take budget) (cut-nil depth) ∙ take-nil budget in
+    let t : leb (length (cutAt depth seed (wholeFlood o seed))) budget ≡ true = ap (λ l. leb (length (cutAt depth seed l)) budget) (whole-none o seed n) ∙ ap (λ l. leb (length l) budget) (cut-nil depth) ∙ leb·zero budget in
+    λ i. record { cells = e i; number = length (e i); wasAll = t i }
+  where
+    cut-nil : (d : Depth) → cutAt d seed [] ≡ []
+    cut-nil none = refl
+    cut-nil (some d) = refl
+
+-- With no depth and a budget of at least the number of occupied cells, a flood gives the whole flood, and that was all of it.
+pub flood-whole : (touch : Cell → Cell → Bool) (o : Occupancy) → Sound touch o → (seed : Cell) (budget : ℕ) → length (occupied o) ≤ budget → flood o seed none budget ≡ record { cells = wholeFlood o seed; number = length (wholeFlood o seed); wasAll = true }
+flood-whole touch o ok seed budget h =
+    let s : length (wholeFlood o seed) ≤ budget = omega (arith, whole-shorter touch o ok seed) in
+    let e : take budget (wholeFlood o seed) ≡ wholeFlood o seed = take-all budget (wholeFlood o seed) s in
+    let t : leb (length (wholeFlood o seed)) budget ≡ true = true-of _ (le→leb (length (wholeFlood o seed)) budget s) in
+    λ i. record { cells = e i; number = length (e i); wasAll = t i }
+
+module _ (o : Occupancy) (seed : Cell) (depth : Depth) (budget : ℕ) where
+  -- The number given is the number of cells given.
+  pub flood-number : flood o seed depth budget .number ≡ length (flood o seed depth budget .cells)
+  flood-number = refl
+
+  -- No more cells are given than the budget.
+  pub flood-budget : flood o seed depth budget .number ≤ budget
+  flood-budget = omega (arith, length-take budget (cutAt depth seed (wholeFlood o seed)))
+
+  -- The cells given are the first of the whole flood as the depth leaves it.
+  pub flood-prefix : (rest : List Cell) × (flood o seed depth budget .cells ++ rest ≡ cutAt depth seed (wholeFlood o seed))
+  flood-prefix = (drop budget (cutAt depth seed (wholeFlood o seed)), take-append-drop budget (cutAt depth seed (wholeFlood o seed)))
+
+  -- That was all of it exactly when the budget covers what the depth leaves.
+  pub flood-all : T (flood o seed depth budget .wasAll) ↔ (length (cutAt depth seed (wholeFlood o seed)) ≤ budget)
+  flood-all = (λ t. leb→le (length (cutAt depth seed (wholeFlood o seed))) budget t, λ h. le→leb (length (cutAt depth seed (wholeFlood o seed))) budget h)
+
+  -- That was all of it exactly when the cells given are all that the depth leaves.
+  pub flood-all-cells : T (flood o seed depth budget .wasAll) ↔ (flood o seed depth budget .cells ≡ cutAt depth seed (wholeFlood o seed))
+  flood-all-cells =
+      (λ t. take-all budget (cutAt depth seed (wholeFlood o seed)) (flood-all .0 t),
+        λ e. flood-all .1 (omega (arith, flood-budget, ap length e)))
+
+  -- No more cells are given than are occupied.
+  pub flood-occupied : (touch : Cell → Cell → Bool) → Sound touch o → flood o seed depth budget .number ≤ length (occupied o)
+  flood-occupied touch ok = omega (arith, length-take budget (cutAt depth seed (wholeFlood o seed)), cut-shorter depth (wholeFlood o seed), whole-shorter touch o ok seed)
+    where
+      cut-shorter : (d : Depth) (l : List Cell) → length (cutAt d seed l) ≤ length l
+      cut-shorter none l = omega arith
+      cut-shorter (some d) l = whilst-shorter (within d seed) l
+
+  -- No cell is given twice.
+  pub flood-once : (touch : Cell → Cell → Bool) → Sound touch o → Once (flood o seed depth budget .cells)
+  flood-once touch ok = once-prefix (flood o seed depth budget .cells) (flood-prefix .0) (subst Once (sym (flood-prefix .1)) (cut-once depth (wholeFlood o seed) (whole-once touch o ok seed)))
+    where
+      cut-once : (d : Depth) (l : List Cell) → Once l → Once (cutAt d seed l)
+      cut-once none l x = x
+      cut-once (some d) l x = let r : (rest : List Cell) × (whilst (within d seed) l ++ rest ≡ l) × ((y : Cell) (ys : List Cell) → rest ≡ y ∷ ys → T (not (within d seed y))) = whilst-split (within d seed) l in once-prefix (whilst (within d seed) l) (r .0) (subst Once (sym (r .1)) x)
+
+module _ (o : Occupancy) (seed : Cell) (d : ℕ) where
+  -- Every cell given under a depth is within it.
+  pub flood-within : (budget : ℕ) {a : Cell} → Mem a (flood o seed (some d) budget .cells) → T (within d seed a)
+  flood-within budget m = whilst-out (within d seed) (wholeFlood o seed) (take-out budget (cutAt (some d) seed (wholeFlood o seed)) m) .1
+
+  -- A depth leaves the cells of the whole flood before the first that is not within it.
+  pub depth-cuts : (rest : List Cell) × (cutAt (some d) seed (wholeFlood o seed) ++ rest ≡ wholeFlood o seed) × ((x : Cell) (xs : List Cell) → rest ≡ x ∷ xs → T (not (within d seed x)))
+  depth-cuts = whilst-split (within d seed) (wholeFlood o seed)
