@@ -1,5 +1,5 @@
 pub mod Paper
 pub mod NetExact
 pub mod FloodExact
-
-
+pub mod StaysConsistent
+pub mod Grouping

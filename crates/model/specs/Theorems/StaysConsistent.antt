@@ -1,0 +1,140 @@
+-- A fresh state is consistent, and so is what an accepted update leaves of a consistent state.
+use Prim.Native.Nat.{ℕ, _≤_, _<_}
+use native.Mathlib.Omega.{arith}
+use mathlib.Core.Path.{_≡_, refl, sym, _∙_, ap, subst}
+use mathlib.Core.Logic.{_⊎_, inl, inr, ⊎-elim}
+use mathlib.Core.Bool.{Bool, not}
+use mathlib.Core.List.{List, [], _∷_, List·Memᴰ as Mem}
+use lib.Dec.{T}
+use lib.ListN.{length}
+use Rattle.model.specs.Lists.{keep, all, has, keys, values}
+use Rattle.model.specs.Cells.{Cell, same, below, cellInRange}
+use Rattle.model.specs.Occupancy.{Occupancy, Batch, events, occupied, startBatch, playBatch}
+use Rattle.model.specs.Groups.{Groups, regroup}
+use Rattle.model.specs.Update.{State, fresh, mostEntities, mostCells, accepted, refusal, update}
+use Rattle.model.specs.Consistent.{consistent}
+use Rattle.model.specs.Runs.{Reached, start, next}
+use Rattle.model.specs.Laws.Orders.{cells}
+use Rattle.model.specs.Laws.Members.{all-out, keep-in, keep-out, has-of, of-has, hasnt-of, of-hasnt, mem-or}
+use Rattle.model.specs.Laws.Sorted.{Asc, asc-equal, keep-asc}
+use Rattle.model.specs.Laws.Tables.{Free, at-key, key-at, free-key, asc-fair}
+use Rattle.model.specs.Laws.Values.{value-in, value-out}
+use Rattle.model.specs.Laws.Touching.{Touching}
+use Rattle.model.specs.Laws.Occupied.{Sound, batch-sound, occupied-asc}
+use Rattle.model.specs.Laws.Net.{Inside}
+use Rattle.model.specs.Laws.Fine.{Fine}
+use Rattle.model.specs.Laws.Keys.{addAll, addAll-old, addAll-new, addAll-out, keys-regroup, regroup-asc}
+use Rattle.model.specs.Laws.Regroup.{regroup-fine}
+use Rattle.model.specs.Laws.Accepted.{Accepts, accepts, update-accepted, Within, unbroken-within}
+use Rattle.model.specs.Laws.Consistency.{Ok, ok-in, ok-out, fine-of, ids-asc, shared-of}
+use Rattle.model.specs.Theorems.NetExact.{Since, net-exact, net-sizes, net-inside}
+
+-- A fresh state is consistent.
+pub consistent-fresh : (touch : Cell → Cell → Bool) (first : ℕ) → T (consistent touch (fresh first))
+consistent-fresh touch first = tt
+
+module _ (touch : Cell → Cell → Bool) (laws : Touching touch) where
+  module _ (s : State) (b : Batch) (ok : Ok touch s) (yes : Accepts touch s b) where
+    abbrev o : Occupancy
+    o = s .occupancy
+
+    abbrev o′ : Occupancy
+    o′ = playBatch touch b o
+
+    abbrev g′ : Groups
+    g′ = regroup touch (o′ .newlyOccupied) (o′ .newlyEmptied) (s .groups)
+
+    sound′ : Sound touch o′
+    sound′ = batch-sound touch (laws .flip) (laws .apart) b o (ok .sound)
+
+    net : Since o o′
+    net = net-exact touch (laws .flip) (laws .apart) b o (ok .sound)
+
+    sizes : (length (o′ .newlyOccupied) ≤ length (occupied o′)) × (length (o′ .newlyEmptied) ≤ length (occupied o))
+    sizes = net-sizes touch (laws .flip) (laws .apart) b o (ok .sound)
+
+    within′ : Within touch o′
+    within′ = unbroken-within touch (events b) (startBatch o) (yes .unbroken) (record { entities = ok .few-entities; cells = ok .few-cells })
+
+    -- The net lists by their members.
+    opened-out : {a : Cell} → Mem a (o′ .newlyOccupied) → Mem a (occupied o′) × (Mem a (occupied o) → ⊥)
+    opened-out {a} m =
+        let r = keep-out (λ c. not (has same (occupied o) c)) (occupied o′) (subst (λ l. Mem a l) (net .opened) m) in
+        (r .0, of-hasnt cells (occupied o) (r .1))
+
+    opened-in : {a : Cell} → Mem a (occupied o′) → (Mem a (occupied o) → ⊥) → Mem a (o′ .newlyOccupied)
+    opened-in {a} m n = subst (λ l. Mem a l) (sym (net .opened)) (keep-in (λ c. not (has same (occupied o) c)) m (hasnt-of cells a (occupied o) n))
+
+    emptied-out : {a : Cell} → Mem a (o′ .newlyEmptied) → Mem a (occupied o) × (Mem a (occupied o′) → ⊥)
+    emptied-out {a} m =
+        let r = keep-out (λ c. not (has same (occupied o′) c)) (occupied o) (subst (λ l. Mem a l) (net .emptied) m) in
+        (r .0, of-hasnt cells (occupied o′) (r .1))
+
+    emptied-in : {a : Cell} → Mem a (occupied o) → (Mem a (occupied o′) → ⊥) → Mem a (o′ .newlyEmptied)
+    emptied-in {a} m n = subst (λ l. Mem a l) (sym (net .emptied)) (keep-in (λ c. not (has same (occupied o′) c)) m (hasnt-of cells a (occupied o′) n))
+
+    -- A newly occupied cell has no id yet.
+    free : (c : Cell) → Mem c (o′ .newlyOccupied) → Free same (s .groups .ids) c
+    free c m = free-key cells (s .groups .ids) (λ k. opened-out m .1 (subst (λ l. Mem c l) (ok .id-cells) k))
+
+    fine′ : Fine touch [] g′
+    fine′ = regroup-fine touch (laws .flip) (o′ .newlyOccupied) (o′ .newlyEmptied) (s .groups) (fine-of touch s ok) (net .opened-ascends) free
+
+    -- The cells with an id are the occupied cells.
+    cells′ : keys (g′ .ids) ≡ occupied o′
+    cells′ =
+        asc-equal cells (keys (g′ .ids)) (occupied o′)
+        (regroup-asc touch (o′ .newlyOccupied) (o′ .newlyEmptied) (s .groups) (ids-asc touch s ok)) (occupied-asc touch o′ sound′) into from
+      where
+        all′ : List Cell
+        all′ = addAll (keys (s .groups .ids)) (o′ .newlyOccupied)
+        into : (a : Cell) → Mem a (keys (g′ .ids)) → Mem a (occupied o′)
+        into a m =
+            let r = keep-out (λ c. not (has same (o′ .newlyEmptied) c)) (addAll (keys (s .groups .ids)) (o′ .newlyOccupied)) (subst (λ l. Mem a l) (keys-regroup touch (o′ .newlyOccupied) (o′ .newlyEmptied) (s .groups)) m) in
+            ⊎-elim (λ k. opened-out k .0)
+            (λ k. ⊎-elim (λ j. j) (λ n. absurd (of-hasnt cells (o′ .newlyEmptied) (r .1) (emptied-in (subst (λ l. Mem a l) (ok .id-cells) k) n))) (mem-or cells a (occupied o′)))
+            (addAll-out (o′ .newlyOccupied) (keys (s .groups .ids)) (r .0))
+        from : (a : Cell) → Mem a (occupied o′) → Mem a (keys (g′ .ids))
+        from a m =
+            subst (λ l. Mem a l) (sym (keys-regroup touch (o′ .newlyOccupied) (o′ .newlyEmptied) (s .groups)))
+            (keep-in (λ c. not (has same (o′ .newlyEmptied) c))
+              (⊎-elim (λ k. addAll-old (o′ .newlyOccupied) (keys (s .groups .ids)) (subst (λ l. Mem a l) (sym (ok .id-cells)) k))
+                (λ n. addAll-new (o′ .newlyOccupied) (keys (s .groups .ids)) (opened-in m n)) (mem-or cells a (occupied o)))
+              (hasnt-of cells a (o′ .newlyEmptied) (λ k. emptied-out k .1 m)))
+
+    inside : Inside cellInRange o′
+    inside = net-inside touch cellInRange b o (ok .range-entities) (λ c m. let r = value-out (b .moves) m in all-out (λ (p : ℕ × Cell). cellInRange (p .1)) (b .moves) (yes .in-range) (r .1))
+
+    -- What an accepted batch leaves.
+    pub accepted-ok : Ok touch (accepted touch s b)
+    unfolding accepted
+    accepted-ok =
+        record {
+          sound = sound′;
+          few-entities = within′ .entities;
+          few-cells = within′ .cells;
+          id-cells = cells′;
+          shared = shared-of touch g′ fine′;
+          records-are = refl;
+          under = λ g m. let r = value-out (g′ .ids) m in fine′ .under (fine′ .fair (r .0, g) (r .1));
+          range-entities = λ c m. inside .stood m;
+          range-occupied = λ c m. inside .opened m;
+          range-emptied = λ c m. inside .emptied m;
+          asc-occupied = net .opened-ascends;
+          asc-emptied = net .emptied-ascends;
+          few-occupied = let w = within′ .cells in let z = sizes .0 in omega arith;
+          few-emptied = let w = ok .few-cells in let z = sizes .1 in omega arith;
+          in-occupied = λ c m. opened-out m .0;
+          not-emptied = λ c m. emptied-out m .1 }
+
+  -- An accepted update of a consistent state is consistent.
+  pub consistent-update : (s : State) (b : Batch) → T (consistent touch s) → update touch s b .0 ≡ 0 → T (consistent touch (update touch s b .1))
+  consistent-update s b t e =
+      let u = update-accepted touch s b e in
+      subst (λ x. T (consistent touch x)) (sym (u .1))
+      (ok-in touch (laws .flip) (accepted touch s b) (accepted-ok s b (ok-out touch (laws .flip) s t) (accepts touch s b (u .0))))
+
+  -- Every state that is reached from a fresh one is consistent.
+  pub consistent-reached : {s : State} → Reached touch s → T (consistent touch s)
+  consistent-reached (start first) = consistent-fresh touch first
+  consistent-reached (next {s} b r e) = consistent-update s b (consistent-reached r) e
