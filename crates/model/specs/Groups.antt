@@ -141,15 +141,19 @@ lower p c = record { x = min (p .x) (c .x); y = min (p .y) (c .y); z = min (p .z
 abbrev pub higher : Corner → Cell → Corner
 higher p c = record { x = max (p .x) (c .x); y = max (p .y) (c .y); z = max (p .z) (c .z) }
 
--- The record of a group with these cells; a group with no cell has none.
-abbrev pub recordOf : ℕ → List Cell → List (ℕ × Group)
-recordOf g [] = []
-recordOf g (c ∷ cs) =
-    (g, record {
+-- The group of a first cell and others: its grid, its cell count, its exact corners.
+abbrev pub groupOf : Cell → List Cell → Group
+groupOf c cs =
+    record {
       grid = c .grid;
       count = suc (length cs);
       low = run lower (cornerAt c) cs;
-      high = run higher (cornerAt c) cs }) ∷ []
+      high = run higher (cornerAt c) cs }
+
+-- The record of a group with these cells; a group with no cell has none.
+abbrev pub recordOf : ℕ → List Cell → List (ℕ × Group)
+recordOf g [] = []
+recordOf g (c ∷ cs) = (g, groupOf c cs) ∷ []
 
 -- One group record for each id that a cell has, ascending by id.
 abbrev pub records : Ids → List (ℕ × Group)

@@ -21,6 +21,7 @@ pub mod PieceOrder
 pub mod Split
 pub mod Keys
 pub mod Regroup
+pub mod Records
 pub mod Shared
 pub mod Accepted
 pub mod Consistency

@@ -3,3 +3,4 @@ pub mod NetExact
 pub mod FloodExact
 pub mod StaysConsistent
 pub mod Grouping
+pub mod CornersExact
