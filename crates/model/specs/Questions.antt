@@ -1,12 +1,13 @@
 -- Asking: what each question answers, as values. What is not found is `none`, or a list with `found` false.
-use Prim.Native.Nat.{ℕ, _+_, _-_, _*_, _/_, _%_, suc}
+use Prim.Native.Nat.{ℕ}
 use mathlib.Core.Bool.{Bool, true, false, cond}
 use mathlib.Core.List.{List, [], _∷_, _++_}
 use mathlib.Core.Option.{Option, none, some}
 use lib.Dec.{eqb}
-use Rattle.model.specs.Lists.{keep, has, each, keys, get, count}
+use Rattle.component.specs.Around.{around}
+use Rattle.model.specs.Lists.{keep, has, keys, get}
 use Rattle.model.specs.Cells.{Cell, same}
-use Rattle.model.specs.Occupancy.{Occupancy, occupied, standsIn}
+use Rattle.model.specs.Occupancy.{occupied}
 use Rattle.model.specs.Flood.{listOf}
 use Rattle.model.specs.Groups.{Group}
 use Rattle.model.specs.Update.{State}
@@ -44,3 +45,10 @@ abbrev pub nearby : State → Cell → Listed Cell
 nearby s c =
     let found : Bool = has same (occupied (s .occupancy)) c in
     record { found = found; list = cond found (c ∷ listOf (s .occupancy .lists) c) [] }
+
+-- Cube: the centre first, then the neighbours of radius r in order, occupied ones only.
+abbrev pub cube : State → Cell → ℕ → Listed Cell
+cube s c r =
+    record {
+      found = has same (occupied (s .occupancy)) c;
+      list = keep (has same (occupied (s .occupancy))) (c ∷ around r c) }

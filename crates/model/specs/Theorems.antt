@@ -4,3 +4,7 @@ pub mod FloodExact
 pub mod StaysConsistent
 pub mod Grouping
 pub mod CornersExact
+pub mod Merges
+pub mod Splits
+pub mod Ids
+pub mod Isolation

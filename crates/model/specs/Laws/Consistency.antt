@@ -23,6 +23,7 @@ use Rattle.model.specs.Laws.Walks.{wider}
 use Rattle.model.specs.Laws.Shared.{Shared, shared-in, shared-out}
 use Rattle.model.specs.Laws.Occupied.{Exact, Sound}
 use Rattle.model.specs.Laws.Fine.{Fine, along}
+use Rattle.model.specs.Laws.Steady.{Steady}
 
 -- What a consistent state is, as facts.
 pub record Ok (touch : Cell → Cell → Bool) (s : State) : Type 0 where
@@ -240,6 +241,9 @@ module _ (touch : Cell → Cell → Bool) where
           under = λ {a} {g} p. k .under g (value-in (at-mem cells ids p));
           edge = λ {a} {b} {g} {h} p q t. k .shared (a, g) (b, h) (at-mem cells ids p) (at-mem cells ids q) .1 (step (at-key cells ids p) t (stop (at-key cells ids q) refl));
           joined = λ {a} {b} {g} p q n. wider touch (λ x m. key-at cells ids m) (k .shared (a, g) (b, g) (at-mem cells ids p) (at-mem cells ids q) .0 refl) }
+
+    pub steady-of : Steady touch s
+    steady-of = record { sound = k .sound; fine = fine-of; idCells = k .id-cells; shown = k .records-are }
 
   pub shared-of : (g : Groups) → Fine touch [] g → Shared touch (g .ids)
   shared-of g f p q m k =

@@ -1,32 +1,43 @@
 -- Rule 1 keeps the invariant: a cell that joins, and the groups that it merges.
-use Prim.Native.Nat.{ℕ, zero, suc, _+_, _≤_, _<_}
+use Prim.Native.Nat.{ℕ, suc, _<_}
 use native.Mathlib.Omega.{arith}
-use native.Mathlib.Nat.{le-refl}
 use mathlib.Core.Path.{_≡_, refl, sym, _∙_, ap, subst}
-use mathlib.Core.Logic.{_⊎_, inl, inr, ⊎-elim}
-use mathlib.Core.Bool.{Bool, true, false, cond, not}
-use mathlib.Core.List.{List, [], _∷_, List·Memᴰ as Mem, List·Memᴰ·head as head, List·Memᴰ·tail as tail, List·Memᴰ·cases-cons as mem-cons, List·Memᴰ·not-nil as mem-nil, Memᴰ·cast as mem-cast}
-use lib.Dec.{T, T-not, not-T, eqb, eqb→eq, eqb-refl, ltb}
-use lib.ListN.{length}
+use mathlib.Core.Logic.{⊎-elim}
+use mathlib.Core.Bool.{Bool, cond}
+use mathlib.Core.List.{List, [], _∷_, List·Memᴰ as Mem, List·Memᴰ·head as head, List·Memᴰ·not-nil as mem-nil}
+use lib.Dec.{T, eqb}
 use Rattle.model.specs.Cells.{Cell, same, below}
 use Rattle.model.specs.Laws.Orders.{cells, numbers}
 use Rattle.model.specs.Lists.{keep, has, put}
-use Rattle.model.specs.Groups.{Ids, Groups, largestGroup, size, foundAt, merge, joinFound, rule1}
+use Rattle.model.specs.Groups.{Ids, Groups, largestGroup, foundAt, merge, joinFound, rule1}
 use Rattle.model.specs.Paths.{Path, stop, step}
-use Rattle.model.specs.Laws.Tests.{decided, true-of, false-of}
-use Rattle.model.specs.Laws.Members.{keep-in, keep-out, each-in, each-out, has-of, of-has}
+use Rattle.model.specs.Laws.Tests.{cond-yes, cond-no}
+use Rattle.model.specs.Laws.Members.{keep-in, keep-out, each-in, each-out, has-of, hasnt-of, mem-or}
 use Rattle.model.specs.Laws.Walks.{wider, join, back}
 use Rattle.model.specs.Laws.Tables.{At, In, Free, Fair, at-mem, at-put-self, at-put-other, at-put-cases, at-change, at-unchange, fair-put, fair-change}
 use Rattle.model.specs.Laws.Fine.{Fine}
+use Rattle.model.specs.Laws.Largest.{largest-in}
 
--- The largest group is one of them.
-pub largest-in : (ids : Ids) (g : ℕ) (gs : List ℕ) → Mem (largestGroup ids g gs) (g ∷ gs)
-largest-in ids g [] = head refl
-largest-in ids g (h ∷ hs) = go (ltb (size ids g) (size ids h)) (largest-in ids _ hs)
-  where
-    go : (b : Bool) → Mem (largestGroup ids (cond b h g) hs) (cond b h g ∷ hs) → Mem (largestGroup ids (cond b h g) hs) (g ∷ h ∷ hs)
-    go true m = tail m
-    go false m = ⊎-elim (λ e. head e) (λ k. tail (tail k)) (mem-cons m)
+-- The id that h becomes if the groups found become the group w.
+abbrev pub mergedId : ℕ → List ℕ → ℕ → ℕ
+mergedId w found h = cond (has eqb found h) w h
+
+module _ (w : ℕ) (found : List ℕ) where
+  -- A group found becomes w.
+  pub merged-in : {h : ℕ} → Mem h found → mergedId w found h ≡ w
+  merged-in {h} m = cond-yes (has eqb found h) w h (has-of numbers m)
+
+  -- Another group stays.
+  pub merged-out : {h : ℕ} → (Mem h found → ⊥) → mergedId w found h ≡ h
+  merged-out {h} n = cond-no (has eqb found h) w h (hasnt-of numbers h found n)
+
+  -- What a cell has after a merge is what its id became.
+  pub merge-was : (ids : Ids) {a : Cell} {k : ℕ} → At same (merge w found ids) a k → (h : ℕ) × At same ids a h × (k ≡ mergedId w found h)
+  merge-was ids p = at-unchange cells (λ c h. mergedId w found h) ids p
+
+  -- A cell has after a merge what its id becomes.
+  pub merge-now : (ids : Ids) {a : Cell} {h : ℕ} → At same ids a h → At same (merge w found ids) a (mergedId w found h)
+  merge-now ids p = at-change cells (λ c h. mergedId w found h) ids p
 
 module _ (touch : Cell → Cell → Bool) where
   -- The group of a neighbour is found.
@@ -67,29 +78,29 @@ module _ (touch : Cell → Cell → Bool) where
 
     -- Some have one: g ∷ gs are the groups found.
     module _ (g : ℕ) (gs : List ℕ) (is : foundAt touch (s .ids) c ≡ g ∷ gs) where
-      abbrev big : ℕ
-      big = largestGroup (put below c g (s .ids)) g gs
-
-      abbrev to : ℕ → ℕ
-      to h = cond (has eqb (g ∷ gs) h) big h
-
       abbrev joined′ : Ids
       joined′ = put below c g (s .ids)
+
+      abbrev big : ℕ
+      big = largestGroup joined′ g gs
 
       abbrev ids′ : Ids
       ids′ = merge big (g ∷ gs) joined′
 
-      to-in : {h : ℕ} → Mem h (g ∷ gs) → to h ≡ big
-      to-in {h} m = ap (λ b. cond b big h) (true-of (has eqb (g ∷ gs) h) (has-of numbers m))
-
-      to-out : {h : ℕ} → T (not (has eqb (g ∷ gs) h)) → to h ≡ h
-      to-out {h} n = ap (λ b. cond b big h) (false-of (has eqb (g ∷ gs) h) n)
-
-      was : {a : Cell} {h : ℕ} → At same ids′ a h → (k : ℕ) × At same joined′ a k × (h ≡ to k)
-      was p = at-unchange cells (λ a h. to h) joined′ p
+      abbrev to : ℕ → ℕ
+      to = mergedId big (g ∷ gs)
 
       now : {a : Cell} {h : ℕ} → At same joined′ a h → At same ids′ a (to h)
-      now p = at-change cells (λ a h. to h) joined′ p
+      now p = merge-now big (g ∷ gs) joined′ p
+
+      in′ : {h : ℕ} → Mem h (g ∷ gs) → to h ≡ big
+      in′ = merged-in big (g ∷ gs)
+
+      out′ : {h : ℕ} → (Mem h (g ∷ gs) → ⊥) → to h ≡ h
+      out′ = merged-out big (g ∷ gs)
+
+      big-in : Mem big (g ∷ gs)
+      big-in = largest-in joined′ g gs
 
       still : {a : Cell} → In same (s .ids) a → In same ids′ a
       still d = (to (d .0), now (kept g (d .1)))
@@ -109,43 +120,39 @@ module _ (touch : Cell → Cell → Bool) where
       near {a} {b} {h} {k} p q t =
           ⊎-elim
           (λ e. ⊎-elim (λ f. ap to (e .1 ∙ sym (f .1)))
-            (λ q′. to-in (head (e .1)) ∙ sym (to-in (subst (λ l. Mem k l) is (found-in (s .ids) c q′ (subst (λ x. T (touch x b)) (e .0) t)))))
+            (λ q′. in′ (head (e .1)) ∙ sym (in′ (subst (λ l. Mem k l) is (found-in (s .ids) c q′ (subst (λ x. T (touch x b)) (e .0) t)))))
             (at-put-cases cells (s .ids) c g q))
-          (λ p′. ⊎-elim (λ f. to-in (subst (λ l. Mem h l) is (found-in (s .ids) c p′ (flip a c (subst (λ x. T (touch a x)) (f .0) t)))) ∙ sym (to-in (head (f .1))))
+          (λ p′. ⊎-elim (λ f. in′ (subst (λ l. Mem h l) is (found-in (s .ids) c p′ (flip a c (subst (λ x. T (touch a x)) (f .0) t)))) ∙ sym (in′ (head (f .1))))
             (λ q′. ap to (ok .edge p′ q′ t))
             (at-put-cases cells (s .ids) c g q))
           (at-put-cases cells (s .ids) c g p)
 
-      old : {a : Cell} {h : ℕ} → At same joined′ a h → T (not (has eqb (g ∷ gs) h)) → At same (s .ids) a h
-      old {a} {h} p n = ⊎-elim (λ e. absurd (T-not (has eqb (g ∷ gs) h) n (has-of numbers (head {xs = gs} (e .1))))) (λ q. q) (at-put-cases cells (s .ids) c g p)
+      old : {a : Cell} {h : ℕ} → At same joined′ a h → (Mem h (g ∷ gs) → ⊥) → At same (s .ids) a h
+      old p n = ⊎-elim (λ e. absurd (n (head (e .1)))) (λ q. q) (at-put-cases cells (s .ids) c g p)
 
       linked : {a b : Cell} {h k : ℕ} → At same joined′ a h → At same joined′ b k → to h ≡ to k → Path touch (In same ids′) a b
       linked {a} {b} {h} {k} p q e =
           ⊎-elim
-          (λ u. ⊎-elim (λ v. join touch (to-new p (of-has numbers _ u)) (back touch flip (to-new q (of-has numbers _ v))))
-            (λ v. absurd (T-not (has eqb (g ∷ gs) k) v (has-of numbers (subst (λ x. Mem x (g ∷ gs)) (sym (to-in (of-has numbers _ u)) ∙ e ∙ to-out v) (largest-in joined′ g gs)))))
-            (decided (has eqb (g ∷ gs) k)))
-          (λ u. ⊎-elim (λ v. absurd (T-not (has eqb (g ∷ gs) h) u (has-of numbers (subst (λ x. Mem x (g ∷ gs)) (sym (to-in (of-has numbers _ v)) ∙ sym e ∙ to-out u) (largest-in joined′ g gs)))))
-            (λ v. wider touch (λ x d. still d) (ok .joined (old p u) (subst (λ x. At same (s .ids) b x) (sym (to-out v) ∙ sym e ∙ to-out u) (old q v)) (λ m. mem-nil m)))
-            (decided (has eqb (g ∷ gs) k)))
-          (decided (has eqb (g ∷ gs) h))
+          (λ u. ⊎-elim (λ v. join touch (to-new p u) (back touch flip (to-new q v)))
+            (λ v. absurd (v (subst (λ x. Mem x (g ∷ gs)) (sym (in′ u) ∙ e ∙ out′ v) big-in))) (mem-or numbers k (g ∷ gs)))
+          (λ u. ⊎-elim (λ v. absurd (u (subst (λ x. Mem x (g ∷ gs)) (sym (in′ v) ∙ sym e ∙ out′ u) big-in)))
+            (λ v. wider touch (λ x d. still d) (ok .joined (old p u) (subst (λ x. At same (s .ids) b x) (sym (out′ v) ∙ sym e ∙ out′ u) (old q v)) (λ m. mem-nil m))) (mem-or numbers k (g ∷ gs)))
+          (mem-or numbers h (g ∷ gs))
 
       low : {h : ℕ} → Mem h (g ∷ gs) → h < s .next
       low {h} m = let r : (x : Cell) × At same (s .ids) x h × T (touch c x) = found-out (s .ids) c (ok .fair) (subst (λ l. Mem h l) (sym is) m) in ok .under (r .1)
 
       below-next : {a : Cell} {h : ℕ} → At same joined′ a h → to h < s .next
       below-next {a} {h} p =
-          ⊎-elim (λ u. subst (λ x. x < s .next) (sym (to-in (of-has numbers _ u))) (low (largest-in joined′ g gs)))
-          (λ u. subst (λ x. x < s .next) (sym (to-out u)) (ok .under (old p u)))
-          (decided (has eqb (g ∷ gs) h))
+          ⊎-elim (λ u. subst (λ x. x < s .next) (sym (in′ u)) (low big-in)) (λ u. subst (λ x. x < s .next) (sym (out′ u)) (ok .under (old p u))) (mem-or numbers h (g ∷ gs))
 
       merged : Fine touch [] (record { ids = ids′; next = s .next })
       merged =
           record {
             fair = fair-change cells (λ a h. to h) joined′ (fair-put cells (s .ids) c g (ok .fair) free);
-            under = λ p. let r = was p in subst (λ x. x < s .next) (sym (r .2)) (below-next (r .1));
-            edge = λ p q t. let r = was p in let r′ = was q in r .2 ∙ near (r .1) (r′ .1) t ∙ sym (r′ .2);
-            joined = λ p q n. let r = was p in let r′ = was q in linked (r .1) (r′ .1) (sym (r .2) ∙ r′ .2) }
+            under = λ p. let r = merge-was big (g ∷ gs) joined′ p in subst (λ x. x < s .next) (sym (r .2)) (below-next (r .1));
+            edge = λ p q t. let r = merge-was big (g ∷ gs) joined′ p in let r′ = merge-was big (g ∷ gs) joined′ q in r .2 ∙ near (r .1) (r′ .1) t ∙ sym (r′ .2);
+            joined = λ p q n. let r = merge-was big (g ∷ gs) joined′ p in let r′ = merge-was big (g ∷ gs) joined′ q in linked (r .1) (r′ .1) (sym (r .2) ∙ r′ .2) }
 
     -- Rule 1 for a cell that has no id keeps the invariant.
     pub rule1-fine : Fine touch [] (rule1 touch s c)

@@ -3,16 +3,16 @@ use Prim.Native.Nat.{ℕ, zero, suc, _≤_, _<_}
 use native.Mathlib.Omega.{arith}
 use mathlib.Core.Path.{_≡_, refl, sym, ap, subst}
 use mathlib.Core.Logic.{_⊎_, inl, inr, ⊎-elim}
-use mathlib.Core.Bool.{Bool, true, false, cond, not}
-use mathlib.Core.List.{List, [], _∷_, List·Memᴰ as Mem, List·Memᴰ·head as head, List·Memᴰ·tail as tail, List·Memᴰ·cases-cons as mem-cons, List·Memᴰ·not-nil as mem-nil, Memᴰ·cast as mem-cast}
-use lib.Dec.{T, T-not, not-T, ltb, ltb→lt, nltb→le}
+use mathlib.Core.Bool.{Bool, true, false, not}
+use mathlib.Core.List.{List, [], _∷_, List·Memᴰ as Mem, List·Memᴰ·head as head, List·Memᴰ·tail as tail, List·Memᴰ·cases-cons as mem-cons, List·Memᴰ·not-nil as mem-nil}
+use lib.Dec.{T, T-not, not-T, ltb→lt, nltb→le}
 use lib.ListN.{length}
 use Rattle.model.specs.Lists.{keep, has}
 use Rattle.model.specs.Cells.{Cell, same, below}
 use Rattle.model.specs.Groups.{part, pieces, parts, largestPiece, smaller}
 use Rattle.model.specs.Laws.Tests.{T-true, T-false}
 use Rattle.model.specs.Laws.Orders.{cells, numbers, is-or, lt-differ}
-use Rattle.model.specs.Laws.Members.{keep-in, keep-out, has-of, of-has, of-hasnt}
+use Rattle.model.specs.Laws.Members.{keep-in, keep-out, has-of}
 use Rattle.model.specs.Laws.Sorted.{Asc, asc-head, asc-tail, keep-asc}
 use Rattle.model.specs.Laws.Walks.{part-self}
 use Rattle.model.specs.Laws.Pieces.{pick, largest-of, others-out, takers}

@@ -1,18 +1,17 @@
 -- The connected parts of a list: each is joined by paths, none touches a cell of another, together they are the list.
-use Prim.Native.Nat.{ℕ, zero, suc, _+_, _≤_, _<_}
+use Prim.Native.Nat.{ℕ, zero, suc, _≤_}
 use native.Mathlib.Omega.{arith}
-use native.Mathlib.Nat.{le-refl}
-use mathlib.Core.Path.{_≡_, refl, sym, _∙_, ap, subst}
+use mathlib.Core.Path.{_≡_, refl, sym, subst}
 use mathlib.Core.Logic.{_⊎_, inl, inr, ⊎-elim}
 use mathlib.Core.Bool.{Bool, true, false, cond, not}
 use mathlib.Core.List.{List, [], _∷_, List·Memᴰ as Mem, List·Memᴰ·head as head, List·Memᴰ·tail as tail, List·Memᴰ·cases-cons as mem-cons, List·Memᴰ·not-nil as mem-nil, Memᴰ·cast as mem-cast}
-use lib.Dec.{T, T-not, not-T, eqb, eqb→eq, eqb-refl, ltb}
+use lib.Dec.{T, T-not, not-T}
 use lib.ListN.{length}
-use Rattle.model.specs.Cells.{Cell, same, below}
-use Rattle.model.specs.Laws.Orders.{cells, numbers}
+use Rattle.model.specs.Cells.{Cell, same}
+use Rattle.model.specs.Laws.Orders.{cells}
 use Rattle.model.specs.Lists.{keep, has, sort}
-use Rattle.model.specs.Groups.{part, pieces, parts, largestPiece, smaller}
-use Rattle.model.specs.Paths.{Path, stop, step}
+use Rattle.model.specs.Groups.{part, pieces, largestPiece, smaller}
+use Rattle.model.specs.Paths.{Path}
 use Rattle.model.specs.Laws.Tests.{decided}
 use Rattle.model.specs.Laws.Members.{keep-in, keep-out, keep-length, has-of, of-has}
 use Rattle.model.specs.Laws.Sorted.{sort-in, sort-out}

@@ -1,71 +1,85 @@
--- The group records: one for each id that a cell has, in order, found by its id.
-use Prim.Native.Nat.{ℕ, zero, suc, _≤_, min, max}
-use native.Mathlib.Omega.{arith}
+-- The group records: one for each id that a cell has, ascending, found by the id.
+use Prim.Native.Nat.{ℕ}
 use mathlib.Core.Path.{_≡_, refl, sym, _∙_, ap, subst}
-use mathlib.Core.Logic.{_⊎_, inl, inr, ⊎-elim}
-use mathlib.Core.Bool.{Bool, true, false, cond, not}
-use mathlib.Core.List.{List, [], _∷_, _++_, List·Memᴰ as Mem, List·Memᴰ·head as head, List·Memᴰ·tail as tail, List·Memᴰ·cases-cons as mem-cons, List·Memᴰ·not-nil as mem-nil}
+use mathlib.Core.Logic.{⊎-elim}
+use mathlib.Core.Bool.{Bool, true, false, cond, _||_}
+use mathlib.Core.List.{List, [], _∷_, _++_, List·Memᴰ as Mem, List·Memᴰ·head as head, List·Memᴰ·tail as tail, List·Memᴰ·not-nil as mem-nil}
 use mathlib.Core.Option.{Option, none, some}
-use lib.Dec.{T, eqb, eqb-refl, ltb}
-use Rattle.model.specs.Lists.{keep, gather, ascending, keys, values, get}
-use Rattle.model.specs.Cells.{Cell, same}
-use Rattle.model.specs.Groups.{Ids, Group, members, groupOf, recordOf, records}
-use Rattle.model.specs.Laws.Tests.{cond-yes, cond-no}
-use Rattle.model.specs.Laws.Orders.{numbers, cells, differ}
-use Rattle.model.specs.Laws.Members.{keep-in, keep-out, key-in, key-out}
-use Rattle.model.specs.Laws.Sorted.{Asc, asc-head, asc-tail, ascending-asc, ascending-in, ascending-out}
+use lib.Dec.{eqb, eqb→eq, eqb-refl, ltb}
+use Rattle.model.specs.Lists.{has, gather, ascending, keys, values, get}
+use Rattle.model.specs.Cells.{Cell}
+use Rattle.model.specs.Groups.{Ids, members, Group, groupOf, recordOf, records}
+use Rattle.model.specs.Laws.Tests.{T-true, cond-yes, cond-no, neqb-of}
+use Rattle.model.specs.Laws.Orders.{numbers}
+use Rattle.model.specs.Laws.Members.{keep-in, keep-none, key-in, has-of, mem-or, hasnt-of}
+use Rattle.model.specs.Laws.Sorted.{ascending-in, ascending-out}
 use Rattle.model.specs.Laws.Values.{value-in, value-out}
 
--- A cell's id has a member.
-pub member-some : (ids : Ids) (g : ℕ) → Mem g (values ids) → (c : Cell) × (cs : List Cell) × (members ids g ≡ c ∷ cs)
-member-some ids g m = go (members ids g) refl (let r = value-out ids m in key-in (keep-in (λ (p : Cell × ℕ). eqb g (p .1)) (r .1) (eqb-refl g)))
-  where
-    go : {a : Cell} (l : List Cell) → members ids g ≡ l → Mem a l → (c : Cell) × (cs : List Cell) × (members ids g ≡ c ∷ cs)
-    go [] e k = absurd (mem-nil k)
-    go (c ∷ cs) e k = (c, cs, e)
+-- What is shown of these cells; nothing of no cell.
+abbrev pub shownOf : List Cell → Option Group
+shownOf [] = none
+shownOf (c ∷ cs) = some (groupOf c cs)
 
--- The records of a list of ids that all have cells are those ids, in order.
-keys-from : (ids : Ids) (gs : List ℕ) → ((g : ℕ) → Mem g gs → Mem g (values ids)) → keys (gather (λ g. recordOf g (members ids g)) gs) ≡ gs
-keys-from ids [] h = refl
-keys-from ids (g ∷ gs) h =
-    let r = member-some ids g (h g (head refl)) in
-    ap (λ (l : List Cell). keys (recordOf g l ++ gather (λ k. recordOf k (members ids k)) gs)) (r .2)
-    ∙ ap (λ (l : List ℕ). g ∷ l) (keys-from ids gs (λ k m. h k (tail m)))
+module _ (cellsOf : ℕ → List Cell) where
+  -- One record after the other, found by the id.
+  found : (l : List ℕ) (g : ℕ) → get eqb (gather (λ h. recordOf h (cellsOf h)) l) g ≡ cond (has eqb l g) (shownOf (cellsOf g)) none
+  found [] g = refl
+  found (x ∷ l) g = go (cellsOf x) (eqb g x) refl refl (found l g)
+    where
+      rest : List (ℕ × Group)
+      rest = gather (λ h. recordOf h (cellsOf h)) l
+      is : (cs : List Cell) → cellsOf x ≡ cs → eqb g x ≡ true → shownOf (cellsOf g) ≡ shownOf cs
+      is cs f e = ap (λ h. shownOf (cellsOf h)) (eqb→eq g x (T-true e)) ∙ ap shownOf f
+      either : (b : Bool) (o : Option Group) → o ≡ none → cond b o none ≡ none
+      either true o e = e
+      either false o e = refl
+      go : (cs : List Cell) (b : Bool) → cellsOf x ≡ cs → eqb g x ≡ b → get eqb rest g ≡ cond (has eqb l g) (shownOf (cellsOf g)) none → get eqb (recordOf x cs ++ rest) g ≡ cond (b || has eqb l g) (shownOf (cellsOf g)) none
+      go [] true f e r = r ∙ either (has eqb l g) (shownOf (cellsOf g)) (is [] f e) ∙ sym (is [] f e)
+      go [] false f e r = r
+      go (c ∷ cs) true f e r = ap (λ b. cond b (shownOf (c ∷ cs)) (get eqb rest g)) e ∙ sym (is (c ∷ cs) f e)
+      go (c ∷ cs) false f e r = ap (λ b. cond b (shownOf (c ∷ cs)) (get eqb rest g)) e ∙ r
 
--- One record for each id that a cell has and no other, ascending.
-pub records-keys : (ids : Ids) → keys (records ids) ≡ ascending ltb (values ids)
-records-keys ids = keys-from ids (ascending ltb (values ids)) (λ g m. ascending-out numbers (values ids) m)
+  -- The ids of the records are those of the groups that have a cell.
+  listed : (l : List ℕ) → ((h : ℕ) → Mem h l → (c : Cell) × Mem c (cellsOf h)) → keys (gather (λ h. recordOf h (cellsOf h)) l) ≡ l
+  listed [] f = refl
+  listed (x ∷ l) f = go (cellsOf x) (f x (head refl) .0) (f x (head refl) .1) (listed l (λ h m. f h (tail m)))
+    where
+      go : (cs : List Cell) (c : Cell) → Mem c cs → keys (gather (λ h. recordOf h (cellsOf h)) l) ≡ l → keys (recordOf x cs ++ gather (λ h. recordOf h (cellsOf h)) l) ≡ x ∷ l
+      go [] c m r = absurd (mem-nil m)
+      go (d ∷ cs) c m r = ap (λ k. x ∷ k) r
 
-get-from : (ids : Ids) (gs : List ℕ) → ((g : ℕ) → Mem g gs → Mem g (values ids)) → (g : ℕ) (c : Cell) (cs : List Cell) → members ids g ≡ c ∷ cs → Asc ltb gs → Mem g gs →
-    get eqb (gather (λ k. recordOf k (members ids k)) gs) g ≡ some (groupOf c cs)
-get-from ids [] h g c cs e asc m = absurd (mem-nil m)
-get-from ids (k ∷ gs) h g c cs e asc m =
-    ⊎-elim here (λ j. there j (get-from ids gs (λ x y. h x (tail y)) g c cs e (asc-tail asc) j)) (mem-cons m)
-  where
-    r : (d : Cell) × (ds : List Cell) × (members ids k ≡ d ∷ ds)
-    r = member-some ids k (h k (head refl))
-    rest : List (ℕ × Group)
-    rest = gather (λ j. recordOf j (members ids j)) gs
-    is : get eqb (recordOf k (members ids k) ++ rest) g ≡ cond (eqb g k) (some (groupOf (r .0) (r .1))) (get eqb rest g)
-    is = ap (λ (l : List Cell). get eqb (recordOf k l ++ rest) g) (r .2)
-    here : g ≡ k → get eqb (recordOf k (members ids k) ++ rest) g ≡ some (groupOf c cs)
-    here f =
-        ap (λ (l : List Cell). get eqb (recordOf k l ++ rest) g) (ap (members ids) (sym f) ∙ e)
-        ∙ cond-yes (eqb g k) (some (groupOf c cs)) (get eqb rest g) (subst (λ j. T (eqb g j)) f (eqb-refl g))
-    there : Mem g gs → get eqb rest g ≡ some (groupOf c cs) → get eqb (recordOf k (members ids k) ++ rest) g ≡ some (groupOf c cs)
-    there j rec =
-        is
-        ∙ cond-no (eqb g k) (some (groupOf (r .0) (r .1))) (get eqb rest g) (differ numbers (λ f. numbers .irrefl k (subst (λ x. T (ltb k x)) f (asc-head asc g j))))
-        ∙ rec
+module _ (ids : Ids) where
+  -- An id that a cell has is that of a group with a cell.
+  pub members-some : {g : ℕ} → Mem g (values ids) → (c : Cell) × Mem c (members ids g)
+  members-some {g} m =
+      let r : (c : Cell) × Mem (c, g) ids = value-out ids m in
+      (r .0, key-in (keep-in (λ (p : Cell × ℕ). eqb g (p .1)) (r .1) (eqb-refl g)))
 
--- The record of an id that a cell has is that of its cells.
-pub records-at : (ids : Ids) (g : ℕ) (c : Cell) (cs : List Cell) → members ids g ≡ c ∷ cs → get eqb (records ids) g ≡ some (groupOf c cs)
-records-at ids g c cs e =
-    get-from ids (ascending ltb (values ids)) (λ k m. ascending-out numbers (values ids) m) g c cs e (ascending-asc numbers (values ids))
-    (ascending-in numbers (values ids) g-in)
-  where
-    g-in : Mem g (values ids)
-    g-in =
-        let r = key-out (keep (λ (p : Cell × ℕ). eqb g (p .1)) ids) (subst (λ l. Mem c l) (sym e) (head refl)) in
-        let k = keep-out (λ (p : Cell × ℕ). eqb g (p .1)) ids (r .1) in
-        subst (λ h. Mem h (values ids)) (sym (numbers .same-eq g (r .0 .1) (k .1))) (value-in (k .0))
+  -- Its cells are a first one and others.
+  pub members-cons : {g : ℕ} → Mem g (values ids) → (c : Cell) × (cs : List Cell) × (members ids g ≡ c ∷ cs)
+  members-cons {g} m = go (members ids g) refl (members-some m .1)
+    where
+      go : {a : Cell} (l : List Cell) → members ids g ≡ l → Mem a l → (c : Cell) × (cs : List Cell) × (members ids g ≡ c ∷ cs)
+      go [] e k = absurd (mem-nil k)
+      go (c ∷ cs) e k = (c, cs, e)
+
+  -- An id that no cell has is that of a group with no cell.
+  pub members-none : {g : ℕ} → (Mem g (values ids) → ⊥) → members ids g ≡ []
+  members-none {g} n = ap keys (keep-none (λ (p : Cell × ℕ). eqb g (p .1)) ids (λ q m. neqb-of g (q .1) (λ e. n (subst (λ h. Mem h (values ids)) (sym e) (value-in m)))))
+
+  -- The record under an id is that of the id's cells.
+  pub records-get : (g : ℕ) → get eqb (records ids) g ≡ shownOf (members ids g)
+  records-get g =
+      found (members ids) (ascending ltb (values ids)) g
+      ∙ ⊎-elim (λ m. cond-yes (has eqb (ascending ltb (values ids)) g) (shownOf (members ids g)) none (has-of numbers m))
+        (λ n. cond-no (has eqb (ascending ltb (values ids)) g) (shownOf (members ids g)) none (hasnt-of numbers g (ascending ltb (values ids)) n)
+          ∙ sym (ap shownOf (members-none (λ m. n (ascending-in numbers (values ids) m)))))
+        (mem-or numbers g (ascending ltb (values ids)))
+
+  -- Under an id that no cell has stands nothing.
+  pub records-none : (g : ℕ) → (Mem g (values ids) → ⊥) → get eqb (records ids) g ≡ none
+  records-none g n = records-get g ∙ ap shownOf (members-none n)
+
+  -- The ids of the records are those that a cell has, ascending.
+  pub records-keys : keys (records ids) ≡ ascending ltb (values ids)
+  records-keys = listed (members ids) (ascending ltb (values ids)) (λ h m. members-some (ascending-out numbers (values ids) m))

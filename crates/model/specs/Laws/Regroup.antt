@@ -5,7 +5,7 @@ use mathlib.Core.Logic.{_⊎_, inl, inr, ⊎-elim}
 use mathlib.Core.Bool.{Bool, not}
 use mathlib.Core.List.{List, [], _∷_, List·Memᴰ as Mem, List·Memᴰ·head as head, List·Memᴰ·tail as tail}
 use lib.Dec.{T}
-use Rattle.model.specs.Lists.{keep, has, run, keys}
+use Rattle.model.specs.Lists.{has, run, keys}
 use Rattle.model.specs.Cells.{Cell, same, below}
 use Rattle.model.specs.Groups.{Groups, rule1, regroup}
 use Rattle.model.specs.Laws.Orders.{cells, lt-differ}

@@ -1,23 +1,23 @@
--- Rules 2 and 3 keep the invariant: group that leave, and the groups that fall into pieces.
-use Prim.Native.Nat.{ℕ, zero, suc, _+_, _≤_, _<_}
+-- Rules 2 and 3 keep the invariant: cells that leave, and the groups that fall into pieces.
+use Prim.Native.Nat.{ℕ, _<_}
 use native.Mathlib.Omega.{arith}
 use native.Mathlib.Nat.{le-refl}
-use mathlib.Core.Path.{_≡_, refl, sym, _∙_, ap, subst}
-use mathlib.Core.Logic.{_⊎_, inl, inr, ⊎-elim}
-use mathlib.Core.Bool.{Bool, true, false, cond, not}
-use mathlib.Core.List.{List, [], _∷_, List·Memᴰ as Mem, List·Memᴰ·head as head, List·Memᴰ·tail as tail, List·Memᴰ·cases-cons as mem-cons, List·Memᴰ·not-nil as mem-nil, Memᴰ·cast as mem-cast}
-use lib.Dec.{T, T-not, not-T, eqb, eqb→eq, eqb-refl, ltb}
+use mathlib.Core.Path.{_≡_, refl, sym, _∙_, subst}
+use mathlib.Core.Logic.{⊎-elim}
+use mathlib.Core.Bool.{Bool, cond, not}
+use mathlib.Core.List.{List, [], _∷_, List·Memᴰ as Mem, List·Memᴰ·head as head, List·Memᴰ·tail as tail, List·Memᴰ·cases-cons as mem-cons, List·Memᴰ·not-nil as mem-nil}
+use lib.Dec.{T, T-not, eqb, eqb→eq, eqb-refl}
 use lib.ListN.{length}
-use Rattle.model.specs.Cells.{Cell, same, below}
+use Rattle.model.specs.Cells.{Cell, same}
 use Rattle.model.specs.Laws.Orders.{cells, numbers}
-use Rattle.model.specs.Lists.{keep, any, has, run}
+use Rattle.model.specs.Lists.{any, has, run}
 use Rattle.model.specs.Groups.{Ids, Groups, members, rule2, rule3, affected, takeNext, split, splitInto, parts, largestPiece}
 use Rattle.model.specs.Paths.{Path, stop, step}
-use Rattle.model.specs.Laws.Tests.{decided, true-of, false-of}
-use Rattle.model.specs.Laws.Members.{keep-in, keep-out, each-in, any-in, has-of, of-has}
+use Rattle.model.specs.Laws.Tests.{decided}
+use Rattle.model.specs.Laws.Members.{keep-in, each-in, any-in, of-has}
 use Rattle.model.specs.Laws.Sorted.{ascending-in}
 use Rattle.model.specs.Laws.Walks.{wider, first}
-use Rattle.model.specs.Laws.Tables.{At, In, Fair, at-mem, at-change, at-unchange, at-only, at-of-only, fair-change, fair-only}
+use Rattle.model.specs.Laws.Tables.{At, In, at-mem, at-only, at-of-only, fair-change, fair-only}
 use Rattle.model.specs.Laws.Keys.{in-keys, keys-take, keys-takes}
 use Rattle.model.specs.Laws.Takes.{take-cases, take-under, not-takes}
 use Rattle.model.specs.Laws.Fine.{members-in, members-out, Fine}

@@ -5,51 +5,12 @@ use mathlib.Core.Path.{_≡_, refl, sym, subst}
 use mathlib.Core.Logic.{_⊎_, inl, inr}
 use mathlib.Core.Bool.{Bool, true, false, cond, _&&_, _||_, not}
 use lib.Dec.{T, eqb, eqb→eq, eqb-refl, leb, leb→le, ltb, ltb→lt, T-not, not-T}
-
--- A conjunction gives its first part.
-pub and-fst : (a b : Bool) → T (a && b) → T a
-and-fst true b t = tt
-and-fst false b t = t
-
--- A conjunction gives its second part.
-pub and-snd : (a b : Bool) → T (a && b) → T b
-and-snd true b t = t
-and-snd false b t = absurd t
-
--- Two tests that pass make a conjunction that passes.
-pub and-both : (a b : Bool) → T a → T b → T (a && b)
-and-both true b s t = t
-and-both false b s t = s
-
--- If a conjunction fails and its first part passes, its second part fails.
-pub and-not : (a b : Bool) → T a → T (not (a && b)) → T (not b)
-and-not true b s t = t
-and-not false b s t = absurd s
+pub use Rattle.component.specs.Tests.{and-fst, and-snd, and-both, or-cases, or-left, or-right, or-not, and-not}
 
 -- If a conjunction fails, one of its parts fails.
 pub and-cases : (a b : Bool) → T (not (a && b)) → T (not a) ⊎ T (not b)
 and-cases true b t = inr t
 and-cases false b t = inl tt
-
--- If a disjunction passes, one of its parts passes.
-pub or-cases : (a b : Bool) → T (a || b) → T a ⊎ T b
-or-cases true b t = inl tt
-or-cases false b t = inr t
-
--- A disjunction passes with its first part.
-pub or-left : (a b : Bool) → T a → T (a || b)
-or-left true b t = tt
-or-left false b t = absurd t
-
--- A disjunction passes with its second part.
-pub or-right : (a b : Bool) → T b → T (a || b)
-or-right true b t = tt
-or-right false b t = t
-
--- If a disjunction fails, both its parts fail.
-pub or-not : (a b : Bool) → T (not (a || b)) → T (not a) × T (not b)
-or-not true b t = absurd t
-or-not false b t = (tt, t)
 
 -- If both parts fail, a disjunction fails.
 pub or-neither : (a b : Bool) → T (not a) → T (not b) → T (not (a || b))

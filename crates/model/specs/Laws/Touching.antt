@@ -5,13 +5,14 @@ use mathlib.Core.Path.{_≡_, refl, sym, _∙_, ap, subst}
 use mathlib.Core.Logic.{_⊎_, inl, inr, ⊎-elim}
 use mathlib.Core.Bool.{Bool, true, false, cond, _&&_, _||_, not}
 use mathlib.Core.List.{List, [], _∷_, _++_, List·Memᴰ as Mem}
-use lib.Dec.{T, T-not, not-T, eqb, eqb→eq, eqb-refl, leb, leb→le, ltb, ltb→lt, lt→ltb}
+use lib.Dec.{T, T-not, not-T, eqb, eqb→eq, eqb-refl, leb, leb→le, le→leb, ltb, ltb→lt, lt→ltb}
 use Rattle.component.specs.Order.{before}
-use Rattle.model.specs.Lists.{keep, any, all, each, has}
-use Rattle.model.specs.Cells.{Cell, same, below, Offset, Offsets, offsets26, all26, opposite, holdsOpposites, leads, touchBy, shift, neighbours}
-use Rattle.model.specs.Laws.Tests.{and-fst, and-snd, and-both, or-cases, or-left, or-right, eqb-of, T-true}
-use Rattle.model.specs.Laws.Orders.{cells}
-use Rattle.model.specs.Laws.Members.{any-in, any-out, all-out, keep-in, keep-out, each-in, each-out, has-of, of-has}
+use Rattle.component.specs.Touch.{close, touches}
+use Rattle.model.specs.Lists.{keep, any, all, each, has, count}
+use Rattle.model.specs.Cells.{Cell, same, below, Offset, Offsets, moves, offsets26, all26, opposite, holdsOpposites, leads, touchBy, shift, neighbours}
+use Rattle.model.specs.Laws.Tests.{and-fst, and-snd, and-both, or-cases, or-left, or-right, eqb-of, same-test}
+use Rattle.model.specs.Laws.Orders.{cells, differ}
+use Rattle.model.specs.Laws.Members.{count-in, any-in, any-out, all-out, keep-in, keep-out, each-in, each-out, has-of, of-has}
 use Rattle.model.specs.Laws.Sorted.{Asc, each-asc, keep-asc, isAscending-out, asc-equal}
 
 -- What every theorem asks of touching.
@@ -173,3 +174,82 @@ module _ (c : Cell) (up : AboveZero c) where
       asc-equal cells _ _ (keep-asc (has same l) (neighbours s c) (neighbours-asc s)) (keep-asc (touchBy s c) l asc)
       (λ a m. let r = keep-out (has same l) (neighbours s c) m in keep-in (touchBy s c) (of-has cells l (r .1)) (neighbour-touches s (r .0)))
       (λ a m. let r = keep-out (touchBy s c) l m in keep-in (has same l) (touching-neighbour s (r .1)) (has-of cells (r .0)))
+
+-- Numbers are close exactly if a step of 0, 1 or 2 leads from one to one more than the other.
+close-step : (m n : ℕ) → T (close m n) → (d : ℕ) × (d ≤ 2) × (m + d ≡ suc n)
+close-step m n t =
+    let h = leb→le m (suc n) (and-fst (leb m (suc n)) _ t) in
+    let k = leb→le n (suc m) (and-snd (leb m (suc n)) _ t) in
+    (suc n - m, omega arith, omega arith)
+
+step-close : (m n d : ℕ) → d ≤ 2 → m + d ≡ suc n → T (close m n)
+step-close m n d h e = and-both (leb m (suc n)) (leb n (suc m)) (le→leb m (suc n) (omega arith)) (le→leb n (suc m) (omega arith))
+
+-- Every step of 0, 1 or 2 on each axis that moves is one of the 26.
+abbrev steps : List ℕ
+steps = count 0 3
+
+abbrev stepFound : ℕ → ℕ → ℕ → Bool
+stepFound dz dy dx = not (moves (record { dx = dx; dy = dy; dz = dz })) || any (sameOffset (record { dx = dx; dy = dy; dz = dz })) offsets26
+
+steps-found : T (all (λ dz. all (λ dy. all (stepFound dz dy) steps) steps) steps)
+steps-found = tt
+
+offset-found : (o : Offset) → T (small o) → T (moves o) → Mem o offsets26
+offset-found o s m =
+    let r : T (leb (o .dy) 2 && leb (o .dz) 2) = and-snd (leb (o .dx) 2) _ s in
+    let hx = leb→le (o .dx) 2 (and-fst (leb (o .dx) 2) _ s) in
+    let hy = leb→le (o .dy) 2 (and-fst (leb (o .dy) 2) _ r) in
+    let hz = leb→le (o .dz) 2 (and-snd (leb (o .dy) 2) _ r) in
+    let kx : Mem (o .dx) steps = count-in 0 3 (omega arith) (omega arith) in
+    let ky : Mem (o .dy) steps = count-in 0 3 (omega arith) (omega arith) in
+    let kz : Mem (o .dz) steps = count-in 0 3 (omega arith) (omega arith) in
+    let fz : T (all (λ dy. all (stepFound (o .dz) dy) steps) steps) = all-out (λ dz. all (λ dy. all (stepFound dz dy) steps) steps) steps steps-found kz in
+    let fy : T (all (stepFound (o .dz) (o .dy)) steps) = all-out (λ dy. all (stepFound (o .dz) dy) steps) steps fz ky in
+    let f : T (stepFound (o .dz) (o .dy) (o .dx)) = all-out (stepFound (o .dz) (o .dy)) steps fy kx in
+    let g : T (any (sameOffset o) offsets26) = ⊎-elim (λ n. absurd (T-not (moves o) n m)) (λ u. u) (or-cases (not (moves o)) _ f) in
+    let p = any-out (sameOffset o) offsets26 g in
+    subst (λ q. Mem q offsets26) (sym (offset-eq o (p .0) (p .2))) (p .1)
+
+-- Touching by all 26 is the touching of crate `component`.
+pub touch26-touches : (a b : Cell) → touchBy all26 a b ≡ touches a b
+touch26-touches a b = same-test (touchBy all26 a b) (touches a b) to from
+  where
+    to : T (touchBy all26 a b) → T (touches a b)
+    to t =
+        let r = step-of all26 a b t in
+        let s : T (small (r .0)) = and-fst (small (r .0)) _ (all-out fair offsets26 all-fair (r .1)) in
+        let s1 : T (leb (r .0 .dy) 2 && leb (r .0 .dz) 2) = and-snd (leb (r .0 .dx) 2) _ s in
+        let l1 : T (eqb (a .y + r .0 .dy) (suc (b .y)) && eqb (a .z + r .0 .dz) (suc (b .z))) = and-snd (eqb (a .x + r .0 .dx) (suc (b .x))) _ (r .3) in
+        and-both (eqb (a .grid) (b .grid)) _ (and-fst (eqb (a .grid) (b .grid)) _ t)
+        (and-both (close (a .x) (b .x)) _ (step-close (a .x) (b .x) (r .0 .dx) (leb→le (r .0 .dx) 2 (and-fst (leb (r .0 .dx) 2) _ s)) (eqb→eq (a .x + r .0 .dx) (suc (b .x)) (and-fst (eqb (a .x + r .0 .dx) (suc (b .x))) _ (r .3))))
+        (and-both (close (a .y) (b .y)) _ (step-close (a .y) (b .y) (r .0 .dy) (leb→le (r .0 .dy) 2 (and-fst (leb (r .0 .dy) 2) _ s1)) (eqb→eq (a .y + r .0 .dy) (suc (b .y)) (and-fst (eqb (a .y + r .0 .dy) (suc (b .y))) _ l1)))
+        (and-both (close (a .z) (b .z)) _ (step-close (a .z) (b .z) (r .0 .dz) (leb→le (r .0 .dz) 2 (and-snd (leb (r .0 .dy) 2) _ s1)) (eqb→eq (a .z + r .0 .dz) (suc (b .z)) (and-snd (eqb (a .y + r .0 .dy) (suc (b .y))) _ l1)))
+        (differ cells (λ e. touching-26 .apart a (subst (λ c. T (touchBy all26 a c)) (sym e) t))))))
+    from : T (touches a b) → T (touchBy all26 a b)
+    from t =
+        let t1 : T (close (a .x) (b .x) && (close (a .y) (b .y) && (close (a .z) (b .z) && not (same a b)))) = and-snd (eqb (a .grid) (b .grid)) _ t in
+        let t2 : T (close (a .y) (b .y) && (close (a .z) (b .z) && not (same a b))) = and-snd (close (a .x) (b .x)) _ t1 in
+        let t3 : T (close (a .z) (b .z) && not (same a b)) = and-snd (close (a .y) (b .y)) _ t2 in
+        let g : T (eqb (a .grid) (b .grid)) = and-fst (eqb (a .grid) (b .grid)) _ t in
+        let x = close-step (a .x) (b .x) (and-fst (close (a .x) (b .x)) _ t1) in
+        let y = close-step (a .y) (b .y) (and-fst (close (a .y) (b .y)) _ t2) in
+        let z = close-step (a .z) (b .z) (and-fst (close (a .z) (b .z)) _ t3) in
+        let o : Offset = record { dx = x .0; dy = y .0; dz = z .0 } in
+        let s : T (small o) = and-both (leb (x .0) 2) _ (le→leb (x .0) 2 (x .1)) (and-both (leb (y .0) 2) _ (le→leb (y .0) 2 (y .1)) (le→leb (z .0) 2 (z .1))) in
+        let l : T (leads a b o) = and-both (eqb (a .x + x .0) (suc (b .x))) _ (eqb-of (a .x + x .0) (suc (b .x)) (x .2)) (and-both (eqb (a .y + y .0) (suc (b .y))) _ (eqb-of (a .y + y .0) (suc (b .y)) (y .2)) (eqb-of (a .z + z .0) (suc (b .z)) (z .2))) in
+        and-both (eqb (a .grid) (b .grid)) _ g
+        (any-in (λ p. all26 p && leads a b p) (offset-found o s (not-T (eqb (x .0) 1 && (eqb (y .0) 1 && eqb (z .0) 1)) (λ u. still x y z g (and-snd (close (a .z) (b .z)) _ t3) u))) l)
+      where
+        still : (x : (d : ℕ) × (d ≤ 2) × (a .x + d ≡ suc (b .x))) (y : (d : ℕ) × (d ≤ 2) × (a .y + d ≡ suc (b .y))) (z : (d : ℕ) × (d ≤ 2) × (a .z + d ≡ suc (b .z))) →
+            T (eqb (a .grid) (b .grid)) → T (not (same a b)) → T (eqb (x .0) 1 && (eqb (y .0) 1 && eqb (z .0) 1)) → ⊥
+        still x y z g n u =
+            let u1 : T (eqb (y .0) 1 && eqb (z .0) 1) = and-snd (eqb (x .0) 1) _ u in
+            let ex = eqb→eq (x .0) 1 (and-fst (eqb (x .0) 1) _ u) in
+            let ey = eqb→eq (y .0) 1 (and-fst (eqb (y .0) 1) _ u1) in
+            let ez = eqb→eq (z .0) 1 (and-snd (eqb (y .0) 1) _ u1) in
+            let fx : a .x ≡ b .x = omega (arith, x .2) in
+            let fy : a .y ≡ b .y = omega (arith, y .2) in
+            let fz : a .z ≡ b .z = omega (arith, z .2) in
+            T-not (same a b) n
+            (and-both (eqb (a .grid) (b .grid)) _ g (and-both (eqb (a .z) (b .z)) _ (eqb-of (a .z) (b .z) fz) (and-both (eqb (a .y) (b .y)) _ (eqb-of (a .y) (b .y) fy) (eqb-of (a .x) (b .x) fx))))

@@ -8,7 +8,7 @@ use mathlib.Core.List.{List, [], _∷_, List·Memᴰ as Mem, List·Memᴰ·head 
 use mathlib.Core.Option.{some}
 use lib.Dec.{T, eqb, ltb}
 use lib.ListN.{length}
-use Rattle.model.specs.Lists.{run, ascending, keys, values}
+use Rattle.model.specs.Lists.{run, ascending, keys, values, get}
 use Rattle.model.specs.Cells.{Cell, same}
 use Rattle.model.specs.Occupancy.{occupied}
 use Rattle.model.specs.Paths.{Path, PathTo, stop, step}
@@ -21,7 +21,7 @@ use Rattle.model.specs.Laws.Tables.{At, at-mem, asc-fair}
 use Rattle.model.specs.Laws.Values.{value-in}
 use Rattle.model.specs.Laws.Fine.{members-in, members-out}
 use Rattle.model.specs.Laws.Touching.{Touching}
-use Rattle.model.specs.Laws.Records.{member-some, records-keys, records-at}
+use Rattle.model.specs.Laws.Records.{shownOf, members-cons, records-keys, records-get}
 use Rattle.model.specs.Laws.Consistency.{Ok, ok-out, ids-asc}
 
 -- n stands in R to what f gives for each of the cells, and one of them has it.
@@ -136,9 +136,9 @@ module _ (touch : Cell → Cell → Bool) (laws : Touching touch) where
     pub corners-exact : (a : Cell) (g : ℕ) → idOf s a ≡ some g → (r : Group) × (groupBy s g ≡ some r) × Shows (members (s .groups .ids) g) r
     corners-exact a g e =
         let is : At same (s .groups .ids) a g = record { is = e } in
-        let m = member-some (s .groups .ids) g (value-in (at-mem cells (s .groups .ids) is)) in
+        let m = members-cons (s .groups .ids) (value-in (at-mem cells (s .groups .ids) is)) in
         (groupOf (m .0) (m .1),
-          ap (λ (l : List (ℕ × Group)). Rattle.model.specs.Lists.get eqb l g) (ok .records-are) ∙ records-at (s .groups .ids) g (m .0) (m .1) (m .2),
+          ap (λ (l : List (ℕ × Group)). get eqb l g) (ok .records-are) ∙ records-get (s .groups .ids) g ∙ ap shownOf (m .2),
           subst (λ (l : List Cell). Shows l (groupOf (m .0) (m .1))) (sym (m .2)) (shows (m .0) (m .1) (λ d k. one (m .0) (m .1) (m .2) d k)))
       where
         fair : (c : Cell) → Mem c (members (s .groups .ids) g) → At same (s .groups .ids) c g

@@ -26,7 +26,8 @@ use Rattle.model.specs.Laws.Fine.{Fine}
 use Rattle.model.specs.Laws.Keys.{addAll, addAll-old, addAll-new, addAll-out, keys-regroup, regroup-asc}
 use Rattle.model.specs.Laws.Regroup.{regroup-fine}
 use Rattle.model.specs.Laws.Accepted.{Accepts, accepts, update-accepted, Within, unbroken-within}
-use Rattle.model.specs.Laws.Consistency.{Ok, ok-in, ok-out, fine-of, ids-asc, shared-of}
+use Rattle.model.specs.Laws.Steady.{Steady, accepted-steady}
+use Rattle.model.specs.Laws.Consistency.{Ok, ok-in, ok-out, steady-of, shared-of}
 use Rattle.model.specs.Theorems.NetExact.{Since, net-exact, net-sizes, net-inside}
 
 -- A fresh state is consistent.
@@ -41,11 +42,9 @@ module _ (touch : Cell → Cell → Bool) (laws : Touching touch) where
     abbrev o′ : Occupancy
     o′ = playBatch touch b o
 
-    abbrev g′ : Groups
-    g′ = regroup touch (o′ .newlyOccupied) (o′ .newlyEmptied) (s .groups)
-
-    sound′ : Sound touch o′
-    sound′ = batch-sound touch (laws .flip) (laws .apart) b o (ok .sound)
+    -- What holds of it whether or not it is within number.
+    steady′ : Steady touch (accepted touch s b)
+    steady′ = accepted-steady touch laws s (steady-of touch s ok) b
 
     net : Since o o′
     net = net-exact touch (laws .flip) (laws .apart) b o (ok .sound)
@@ -62,45 +61,10 @@ module _ (touch : Cell → Cell → Bool) (laws : Touching touch) where
         let r = keep-out (λ c. not (has same (occupied o) c)) (occupied o′) (subst (λ l. Mem a l) (net .opened) m) in
         (r .0, of-hasnt cells (occupied o) (r .1))
 
-    opened-in : {a : Cell} → Mem a (occupied o′) → (Mem a (occupied o) → ⊥) → Mem a (o′ .newlyOccupied)
-    opened-in {a} m n = subst (λ l. Mem a l) (sym (net .opened)) (keep-in (λ c. not (has same (occupied o) c)) m (hasnt-of cells a (occupied o) n))
-
     emptied-out : {a : Cell} → Mem a (o′ .newlyEmptied) → Mem a (occupied o) × (Mem a (occupied o′) → ⊥)
     emptied-out {a} m =
         let r = keep-out (λ c. not (has same (occupied o′) c)) (occupied o) (subst (λ l. Mem a l) (net .emptied) m) in
         (r .0, of-hasnt cells (occupied o′) (r .1))
-
-    emptied-in : {a : Cell} → Mem a (occupied o) → (Mem a (occupied o′) → ⊥) → Mem a (o′ .newlyEmptied)
-    emptied-in {a} m n = subst (λ l. Mem a l) (sym (net .emptied)) (keep-in (λ c. not (has same (occupied o′) c)) m (hasnt-of cells a (occupied o′) n))
-
-    -- A newly occupied cell has no id yet.
-    free : (c : Cell) → Mem c (o′ .newlyOccupied) → Free same (s .groups .ids) c
-    free c m = free-key cells (s .groups .ids) (λ k. opened-out m .1 (subst (λ l. Mem c l) (ok .id-cells) k))
-
-    fine′ : Fine touch [] g′
-    fine′ = regroup-fine touch (laws .flip) (o′ .newlyOccupied) (o′ .newlyEmptied) (s .groups) (fine-of touch s ok) (net .opened-ascends) free
-
-    -- The cells with an id are the occupied cells.
-    cells′ : keys (g′ .ids) ≡ occupied o′
-    cells′ =
-        asc-equal cells (keys (g′ .ids)) (occupied o′)
-        (regroup-asc touch (o′ .newlyOccupied) (o′ .newlyEmptied) (s .groups) (ids-asc touch s ok)) (occupied-asc touch o′ sound′) into from
-      where
-        all′ : List Cell
-        all′ = addAll (keys (s .groups .ids)) (o′ .newlyOccupied)
-        into : (a : Cell) → Mem a (keys (g′ .ids)) → Mem a (occupied o′)
-        into a m =
-            let r = keep-out (λ c. not (has same (o′ .newlyEmptied) c)) (addAll (keys (s .groups .ids)) (o′ .newlyOccupied)) (subst (λ l. Mem a l) (keys-regroup touch (o′ .newlyOccupied) (o′ .newlyEmptied) (s .groups)) m) in
-            ⊎-elim (λ k. opened-out k .0)
-            (λ k. ⊎-elim (λ j. j) (λ n. absurd (of-hasnt cells (o′ .newlyEmptied) (r .1) (emptied-in (subst (λ l. Mem a l) (ok .id-cells) k) n))) (mem-or cells a (occupied o′)))
-            (addAll-out (o′ .newlyOccupied) (keys (s .groups .ids)) (r .0))
-        from : (a : Cell) → Mem a (occupied o′) → Mem a (keys (g′ .ids))
-        from a m =
-            subst (λ l. Mem a l) (sym (keys-regroup touch (o′ .newlyOccupied) (o′ .newlyEmptied) (s .groups)))
-            (keep-in (λ c. not (has same (o′ .newlyEmptied) c))
-              (⊎-elim (λ k. addAll-old (o′ .newlyOccupied) (keys (s .groups .ids)) (subst (λ l. Mem a l) (sym (ok .id-cells)) k))
-                (λ n. addAll-new (o′ .newlyOccupied) (keys (s .groups .ids)) (opened-in m n)) (mem-or cells a (occupied o)))
-              (hasnt-of cells a (o′ .newlyEmptied) (λ k. emptied-out k .1 m)))
 
     inside : Inside cellInRange o′
     inside = net-inside touch cellInRange b o (ok .range-entities) (λ c m. let r = value-out (b .moves) m in all-out (λ (p : ℕ × Cell). cellInRange (p .1)) (b .moves) (yes .in-range) (r .1))
@@ -110,13 +74,13 @@ module _ (touch : Cell → Cell → Bool) (laws : Touching touch) where
     unfolding accepted
     accepted-ok =
         record {
-          sound = sound′;
+          sound = steady′ .sound;
           few-entities = within′ .entities;
           few-cells = within′ .cells;
-          id-cells = cells′;
-          shared = shared-of touch g′ fine′;
-          records-are = refl;
-          under = λ g m. let r = value-out (g′ .ids) m in fine′ .under (fine′ .fair (r .0, g) (r .1));
+          id-cells = steady′ .idCells;
+          shared = shared-of touch (accepted touch s b .groups) (steady′ .fine);
+          records-are = steady′ .shown;
+          under = λ g m. let r = value-out (accepted touch s b .groups .ids) m in steady′ .fine .under (steady′ .fine .fair (r .0, g) (r .1));
           range-entities = λ c m. inside .stood m;
           range-occupied = λ c m. inside .opened m;
           range-emptied = λ c m. inside .emptied m;
