@@ -7,4 +7,5 @@ pub mod CornersExact
 pub mod Merges
 pub mod Splits
 pub mod Ids
+pub mod UpdateIds
 pub mod Isolation

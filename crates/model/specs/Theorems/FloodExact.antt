@@ -1,20 +1,20 @@
 -- A flood gives exactly the joined cells, the seed first, cut by the depth and then by the budget.
-use Prim.Native.Nat.{ℕ, _≤_}
+use Prim.Native.Nat.{ℕ, _+_, _≤_}
 use native.Mathlib.Omega.{arith}
 use mathlib.Core.Path.{_≡_, refl, sym, _∙_, ap, subst}
 use mathlib.Core.Logic.{_↔_}
-use mathlib.Core.Bool.{Bool, true, not}
+use mathlib.Core.Bool.{Bool, true, _&&_, not}
 use mathlib.Core.List.{List, [], _∷_, _++_, List·Memᴰ as Mem}
 use mathlib.Core.Option.{none, some}
 use lib.Dec.{T, leb, leb→le, le→leb, leb·zero}
 use lib.ListN.{length, take, drop, take-append-drop, length-take}
 use lib.Seq.{take-all, take-nil}
 use Rattle.model.specs.Lists.{whilst}
-use Rattle.model.specs.Cells.{Cell}
+use Rattle.model.specs.Cells.{Cell, bias}
 use Rattle.model.specs.Occupancy.{Occupancy, occupied}
-use Rattle.model.specs.Flood.{wholeFlood, Depth, within, cutAt, flood}
+use Rattle.model.specs.Flood.{wholeFlood, Depth, atMost, within, cutAt, flood}
 use Rattle.model.specs.Paths.{Joined}
-use Rattle.model.specs.Laws.Tests.{true-of}
+use Rattle.model.specs.Laws.Tests.{true-of, and-fst, and-snd, and-both}
 use Rattle.model.specs.Laws.Members.{Once, whilst-out, whilst-shorter}
 use Rattle.model.specs.Laws.Prefixes.{take-out, once-prefix, whilst-split}
 use Rattle.model.specs.Laws.Occupied.{Sound}
@@ -101,3 +101,15 @@ module _ (o : Occupancy) (seed : Cell) (d : ℕ) where
   -- A depth leaves the cells of the whole flood before the first that is not within it.
   pub depth-cuts : (rest : List Cell) × (cutAt (some d) seed (wholeFlood o seed) ++ rest ≡ wholeFlood o seed) × ((x : Cell) (xs : List Cell) → rest ≡ x ∷ xs → T (not (within d seed x)))
   depth-cuts = whilst-split (within d seed) (wholeFlood o seed)
+
+-- The depth is one-sided: a cell is within it exactly if none of its coordinates minus the seed's is above d, signed.
+pub depth-one-sided : (d : ℕ) (seed c : Cell) → T (within d seed c) ↔ ((c .x + bias ≤ seed .x + d) × (c .y + bias ≤ seed .y + d) × (c .z + bias ≤ seed .z + d))
+depth-one-sided d seed c =
+    (λ t.
+      let r : T (atMost d (seed .y) (c .y) && atMost d (seed .z) (c .z)) = and-snd (atMost d (seed .x) (c .x)) _ t in
+      (leb→le (c .x + bias) (seed .x + d) (and-fst (atMost d (seed .x) (c .x)) _ t),
+        leb→le (c .y + bias) (seed .y + d) (and-fst (atMost d (seed .y) (c .y)) _ r),
+        leb→le (c .z + bias) (seed .z + d) (and-snd (atMost d (seed .y) (c .y)) _ r)),
+      λ h.
+        and-both (atMost d (seed .x) (c .x)) _ (le→leb (c .x + bias) (seed .x + d) (h .0))
+        (and-both (atMost d (seed .y) (c .y)) _ (le→leb (c .y + bias) (seed .y + d) (h .1)) (le→leb (c .z + bias) (seed .z + d) (h .2))))

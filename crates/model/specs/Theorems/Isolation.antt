@@ -2,22 +2,25 @@
 -- renaming that keeps their order.
 use Prim.Native.Nat.{ℕ}
 use mathlib.Core.Path.{_≡_, refl, sym, _∙_, ap, subst}
+use mathlib.Core.Logic.{⊎-elim}
 use mathlib.Core.Bool.{Bool, true, false, cond}
-use mathlib.Core.List.{List, [], _∷_, List·Memᴰ as Mem, List·Memᴰ·not-nil as mem-nil}
+use mathlib.Core.List.{List, [], _∷_, List·Memᴰ as Mem, List·Memᴰ·cases-cons as mem-cons, List·Memᴰ·not-nil as mem-nil}
 use mathlib.Core.Option.{some}
 use lib.Dec.{T, eqb, eqb→eq}
 use Rattle.model.specs.Lists.{keep, has, keys, get, only, change}
-use Rattle.model.specs.Cells.{Cell, same}
+use Rattle.component.specs.Around.{place, around}
+use Rattle.component.specs.Neighbours.{around-index}
+use Rattle.model.specs.Cells.{Cell, same, Offsets, all26, holdsOpposites, touchBy}
 use Rattle.model.specs.Occupancy.{Occupancy, Batch, occupied, playBatch}
 use Rattle.model.specs.Flood.{orEmpty, listOf, flood}
 use Rattle.model.specs.Groups.{Ids, members}
 use Rattle.model.specs.Update.{State, accepted, update}
-use Rattle.model.specs.Questions.{whereIs, entitiesIn, idOf, nearby}
+use Rattle.model.specs.Questions.{whereIs, entitiesIn, idOf, nearby, cube}
 use Rattle.model.specs.Runs.{onGrid, passagesOn, Alike, start, next, renamed, SameOn}
 use Rattle.model.specs.Laws.Orders.{numbers, cells}
 use Rattle.model.specs.Laws.Members.{keep-in, keep-out, keep-ext, each-in}
 use Rattle.model.specs.Laws.Tables.{At, at-mem, asc-mem-at, get-only-yes, keys-only}
-use Rattle.model.specs.Laws.Touching.{Touching}
+use Rattle.model.specs.Laws.Touching.{Touching, touching-by}
 use Rattle.model.specs.Laws.Records.{shownOf, records-get}
 use Rattle.model.specs.Laws.Rename.{Sim, members-ren}
 use Rattle.model.specs.Laws.View.{keep-sub, members-on, view, path-on}
@@ -166,3 +169,21 @@ module _ (grid : ℕ) {s t : State} (r : SameOn grid s t) (c : Cell) (u : T (onG
 -- The occupied ones of some cells of the grid, such as a cube's.
 pub occupied-ones : (grid : ℕ) {s t : State} → SameOn grid s t → (l : List Cell) → ((c : Cell) → Mem c l → T (onGrid grid c)) → keep (has same (occupied (s .occupancy))) l ≡ keep (has same (occupied (t .occupancy))) l
 occupied-ones grid {s} {t} r l f = keep-ext (has same (occupied (s .occupancy))) (has same (occupied (t .occupancy))) l (λ c m. occupied-same grid r c (f c m))
+
+-- A neighbour of a cell of the grid, to any radius, is of the grid.
+around-on : (grid r : ℕ) (c : Cell) → T (onGrid grid c) → (d : Cell) → Mem d (around r c) → T (onGrid grid d)
+around-on grid r c u d m = let k = around-index r c d m in subst (λ x. T (onGrid grid x)) (k .1 .1) (unfold place in u)
+
+-- Every cube about a cell of the grid.
+pub cube-same : (grid : ℕ) {s t : State} → SameOn grid s t → (c : Cell) → T (onGrid grid c) → (r : ℕ) → cube s c r ≡ cube t c r
+cube-same grid {s} {t} same-on c u r =
+    let e = occupied-ones grid same-on (c ∷ around r c) (λ d m. ⊎-elim (λ f. subst (λ x. T (onGrid grid x)) (sym f) u) (λ k. around-on grid r c u d k) (mem-cons m)) in
+    λ i. record { found = occupied-same grid same-on c u i; list = e i }
+
+-- For every set of offsets that holds the opposite of each of its members.
+pub isolation-by : (offsets : Offsets) → T (holdsOpposites offsets) → (grid : ℕ) {s t : State} → Alike (touchBy offsets) grid s t → SameOn grid s t
+isolation-by offsets ok = isolation (touchBy offsets) (touching-by offsets ok)
+
+-- For all 26.
+pub isolation-26 : (grid : ℕ) {s t : State} → Alike (touchBy all26) grid s t → SameOn grid s t
+isolation-26 = isolation-by all26 tt

@@ -8,7 +8,7 @@ use mathlib.Core.List.{List, [], _∷_, List·Memᴰ as Mem}
 use lib.Dec.{T}
 use lib.ListN.{length}
 use Rattle.model.specs.Lists.{keep, all, has, keys, values}
-use Rattle.model.specs.Cells.{Cell, same, below, cellInRange}
+use Rattle.model.specs.Cells.{Cell, same, below, cellInRange, Offsets, all26, holdsOpposites, touchBy}
 use Rattle.model.specs.Occupancy.{Occupancy, Batch, events, occupied, startBatch, playBatch}
 use Rattle.model.specs.Groups.{Groups, regroup}
 use Rattle.model.specs.Update.{State, fresh, mostEntities, mostCells, accepted, refusal, update}
@@ -19,7 +19,7 @@ use Rattle.model.specs.Laws.Members.{all-out, keep-in, keep-out, has-of,
 use Rattle.model.specs.Laws.Sorted.{Asc, asc-equal, keep-asc}
 use Rattle.model.specs.Laws.Tables.{Free, at-key, key-at, free-key, asc-fair}
 use Rattle.model.specs.Laws.Values.{value-in, value-out}
-use Rattle.model.specs.Laws.Touching.{Touching}
+use Rattle.model.specs.Laws.Touching.{Touching, touching-by}
 use Rattle.model.specs.Laws.Occupied.{Sound, batch-sound, occupied-asc}
 use Rattle.model.specs.Laws.Net.{Inside}
 use Rattle.model.specs.Laws.Fine.{Fine}
@@ -102,3 +102,11 @@ module _ (touch : Cell → Cell → Bool) (laws : Touching touch) where
   pub consistent-reached : {s : State} → Reached touch s → T (consistent touch s)
   consistent-reached (start first) = consistent-fresh touch first
   consistent-reached (next {s} b r e) = consistent-update s b (consistent-reached r) e
+
+-- For every set of offsets that holds the opposite of each of its members.
+pub consistent-by : (offsets : Offsets) → T (holdsOpposites offsets) → {s : State} → Reached (touchBy offsets) s → T (consistent (touchBy offsets) s)
+consistent-by offsets ok = consistent-reached (touchBy offsets) (touching-by offsets ok)
+
+-- For all 26.
+pub consistent-26 : {s : State} → Reached (touchBy all26) s → T (consistent (touchBy all26) s)
+consistent-26 = consistent-by all26 tt

@@ -1,0 +1,68 @@
+-- Consistency of words: the eight points, each with the layout faults that fall under it.
+use Prim.Native.Nat.{ℕ, _*_, _+_}
+use mathlib.Core.Bool.{Bool, _&&_}
+use mathlib.Core.List.{List}
+use lib.Dec.{eqb, leb, ltb}
+use lib.ListN.{length, getD, drop}
+use Rattle.model.specs.Lists.{all, whilst, values}
+use Rattle.model.specs.Cells.{Cell, touch26}
+use Rattle.model.specs.Update.{State, mostEntities, mostCells}
+use Rattle.model.specs.Consistent.{withinNumber, cellsExact, listsExact, idsShared, recordsExact, idsBelowNext, coordinatesInRange, netsInOrder}
+use Rattle.table.specs.Rows.{areZero, table4}
+use Rattle.layout.specs.State.{decode, stateLen, entityWords, cellWords, occupiedWords, emptiedWords, idWords, groupWords, entityCount, cellCount, occupiedCount, emptiedCount, idCount, groupCount}
+
+-- Whether a table of rows of width w counts at most `most` rows and has zeros behind them.
+abbrev pub tidy : ℕ → ℕ → ℕ → List ℕ → Bool
+tidy w most n s = leb n most && areZero (drop (w * n) s)
+
+-- Whether a list's words are numbers of neighbours up to the first zero, and zeros from there on.
+abbrev pub listTidy : List ℕ → Bool
+listTidy ws = all (λ n. leb n 26) ws && areZero (drop (length (whilst (ltb 0) ws)) ws)
+
+-- 1. The entity rows and the header's last word.
+unfoldable pub point1 : List ℕ → Bool
+point1 w =
+    eqb (getD w 7 0) 0
+    && (tidy 5 mostEntities (entityCount w) (entityWords w)
+    && (leb (cellCount w) mostCells && withinNumber (decode w)))
+
+-- 2. The rows of occupied cells and of cells with an id.
+unfoldable pub point2 : List ℕ → Bool
+point2 w =
+    tidy 30 mostCells (cellCount w) (cellWords w)
+    && (tidy 5 mostCells (idCount w) (idWords w) && cellsExact (decode w))
+
+-- 3. The words of the lists.
+unfoldable pub point3 : List ℕ → Bool
+point3 w = all listTidy (values (table4 30 (cellCount w) (cellWords w))) && listsExact touch26 (decode w)
+
+-- 4.
+unfoldable pub point4 : List ℕ → Bool
+point4 w = idsShared touch26 (decode w)
+
+-- 5. The group rows.
+unfoldable pub point5 : List ℕ → Bool
+point5 w = tidy 9 mostCells (groupCount w) (groupWords w) && recordsExact (decode w)
+
+-- 6.
+unfoldable pub point6 : List ℕ → Bool
+point6 w = idsBelowNext (decode w)
+
+-- 7.
+unfoldable pub point7 : List ℕ → Bool
+point7 w = coordinatesInRange (decode w)
+
+-- 8. The rows of both net lists.
+unfoldable pub point8 : List ℕ → Bool
+point8 w =
+    tidy 4 mostCells (occupiedCount w) (occupiedWords w)
+    && (tidy 4 mostCells (emptiedCount w) (emptiedWords w) && netsInOrder (decode w))
+
+-- Whether the words are long enough for a state.
+abbrev pub longEnough : List ℕ → Bool
+longEnough w = leb stateLen (length w)
+
+-- Whether the words of a state are consistent: all eight, in order.
+unfoldable pub consistentWords : List ℕ → Bool
+consistentWords w =
+    point1 w && (point2 w && (point3 w && (point4 w && (point5 w && (point6 w && (point7 w && point8 w))))))

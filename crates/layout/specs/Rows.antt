@@ -1,0 +1,112 @@
+-- How the rows of the model's tables stand in words, and how they are read back.
+use Prim.Native.Nat.{ℕ, suc, _+_, _-_, _*_}
+use mathlib.Core.Bool.{Bool, cond}
+use mathlib.Core.List.{List, [], _∷_, _++_}
+use lib.ListN.{length, getD, replicate}
+use lib.Dec.{ltb}
+use Rattle.component.specs.Adjacent.{adjacentOf}
+use Rattle.component.specs.declared.Neighbour.{Neighbour}
+use Rattle.component.specs.declared.Neighbour.the-variants.{Is, Nothing}
+use Rattle.model.specs.Lists.{each, whilst, keys}
+use Rattle.model.specs.Cells.{Cell}
+use Rattle.model.specs.Groups.{Corner, Group}
+use Rattle.table.specs.Rows.{cellAt, cellWords, table1, table4, image1, image4}
+
+-- An entity's row: the entity, then the words of the cell where it stands; 5 words.
+abbrev pub entityRow : ℕ × Cell → ℕ × List ℕ
+entityRow p = (p .0, cellWords (p .1))
+
+abbrev pub entityOf : ℕ × List ℕ → ℕ × Cell
+entityOf p = (p .0, cellAt (p .1) 0)
+
+-- The most cells of a list.
+abbrev pub listLen : ℕ
+listLen = 26
+
+-- The place of d in the block of 27 about c.
+abbrev pub placeIn : Cell → Cell → ℕ
+placeIn c d = ((d .z + 1 - c .z) * 3 + (d .y + 1 - c .y)) * 3 + (d .x + 1 - c .x)
+
+-- The number of a neighbour of c in lists, 1 to 26: its place among the neighbours, from 1.
+abbrev pub numberOf : Cell → Cell → ℕ
+numberOf c d = cond (ltb (placeIn c d) 13) (suc (placeIn c d)) (placeIn c d)
+
+-- A neighbour that is there; c itself, which touches no list's cell, where there is none.
+abbrev pub orSelf : Cell → Neighbour → Cell
+orSelf c (Is d) = d
+orSelf c Nothing = c
+
+-- The neighbour of c with a number.
+abbrev pub neighbourOf : Cell → ℕ → Cell
+neighbourOf c n = orSelf c (adjacentOf 1 c (n - 1))
+
+-- A list's words: the numbers in list order, then zeros; 26 words.
+abbrev pub listWords : Cell → List Cell → List ℕ
+listWords c l = each (numberOf c) l ++ replicate (listLen - length l) 0
+
+-- The list that words stand for: the neighbours up to the first zero.
+abbrev pub listCells : Cell → List ℕ → List Cell
+listCells c ws = each (neighbourOf c) (whilst (ltb 0) ws)
+
+-- An occupied cell's row: the cell, then its list; 30 words.
+abbrev pub cellRow : Cell × List Cell → Cell × List ℕ
+cellRow p = (p .0, listWords (p .0) (p .1))
+
+abbrev pub cellOf : Cell × List ℕ → Cell × List Cell
+cellOf p = (p .0, listCells (p .0) (p .1))
+
+-- A net list's row: the cell; 4 words.
+abbrev pub netRow : Cell → Cell × List ℕ
+netRow c = (c, [])
+
+-- The row of a cell with an id: the cell, then the id; 5 words.
+abbrev pub idRow : Cell × ℕ → Cell × List ℕ
+idRow p = (p .0, p .1 ∷ [])
+
+abbrev pub idOf : Cell × List ℕ → Cell × ℕ
+idOf p = (p .0, getD (p .1) 0 0)
+
+-- A group's row: the id, then grid, cell count, low x, y, z, high x, y, z; 9 words.
+abbrev pub groupRow : ℕ × Group → ℕ × List ℕ
+groupRow p =
+    (p .0,
+      p .1 .grid ∷ p .1 .count ∷ p .1 .low .x ∷ p .1 .low .y ∷ p .1 .low .z ∷ p .1 .high .x ∷ p .1 .high .y ∷ p .1 .high .z ∷ [])
+
+-- The corner whose words stand at a place.
+abbrev pub cornerIn : List ℕ → ℕ → Corner
+cornerIn s at = record { x = getD s at 0; y = getD s (at + 1) 0; z = getD s (at + 2) 0 }
+
+abbrev pub groupOf : ℕ × List ℕ → ℕ × Group
+groupOf p = (p .0, record { grid = getD (p .1) 0 0; count = getD (p .1) 1 0; low = cornerIn (p .1) 2; high = cornerIn (p .1) 5 })
+
+-- The words of each table in len words: its rows, then zeros.
+unfoldable pub entitiesImage : ℕ → List (ℕ × Cell) → List ℕ
+entitiesImage len t = image1 len (each entityRow t)
+
+unfoldable pub cellsImage : ℕ → List (Cell × List Cell) → List ℕ
+cellsImage len t = image4 len (each cellRow t)
+
+unfoldable pub netImage : ℕ → List Cell → List ℕ
+netImage len l = image4 len (each netRow l)
+
+unfoldable pub idsImage : ℕ → List (Cell × ℕ) → List ℕ
+idsImage len t = image4 len (each idRow t)
+
+unfoldable pub groupsImage : ℕ → List (ℕ × Group) → List ℕ
+groupsImage len t = image1 len (each groupRow t)
+
+-- The tables that words stand for, n rows of them.
+unfoldable pub entitiesIn : ℕ → List ℕ → List (ℕ × Cell)
+entitiesIn n s = each entityOf (table1 5 n s)
+
+unfoldable pub cellsIn : ℕ → List ℕ → List (Cell × List Cell)
+cellsIn n s = each cellOf (table4 30 n s)
+
+unfoldable pub netIn : ℕ → List ℕ → List Cell
+netIn n s = keys (table4 4 n s)
+
+unfoldable pub idsIn : ℕ → List ℕ → List (Cell × ℕ)
+idsIn n s = each idOf (table4 5 n s)
+
+unfoldable pub groupsIn : ℕ → List ℕ → List (ℕ × Group)
+groupsIn n s = each groupOf (table1 9 n s)

@@ -1,0 +1,4 @@
+pub mod Moving
+pub mod Searching
+pub mod After
+pub mod Ways
