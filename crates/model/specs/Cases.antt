@@ -1,17 +1,18 @@
 -- The twelve moves on paper, A to L, as one list.
-use Prim.Native.Nat.{ℕ, zero, suc, _+_, _-_}
-use mathlib.Core.Bool.{Bool, true, false, cond, _&&_}
+use Prim.Native.Nat.{ℕ, zero, _+_, _-_}
+use mathlib.Core.Bool.{Bool, true, false, _&&_}
 use mathlib.Core.List.{List, [], _∷_, _++_}
 use mathlib.Core.Option.{Option, none, some}
 use lib.Dec.{eqb}
-use Rattle.model.specs.Lists.{all, each, equal, run}
+use Rattle.model.specs.Lists.{all, equal, run}
 use Rattle.model.specs.Cells.{Cell, bias, same, touch26}
 use Rattle.model.specs.Occupancy.{Batch}
-use Rattle.model.specs.Flood.{Depth, Flood, flood}
+use Rattle.model.specs.Flood.{Depth, flood}
 use Rattle.model.specs.Groups.{Group, Corner}
 use Rattle.model.specs.Update.{State, fresh, update}
 use Rattle.model.specs.Questions.{groupBy}
 use Rattle.model.specs.Consistent.{sameCorner}
+pub mod Paper
 
 -- One thing to be seen after the batches of a case.
 pub data Seen : Type 0 where
@@ -116,8 +117,10 @@ cases =
     -- D
     record { batches = fill 0 ∷ fill 2 ∷ fill 3 ∷ fill 1 ∷ []; seen = ids ((at 0, 0) ∷ (at 1, 0) ∷ (at 2, 0) ∷ (at 3, 0) ∷ []) ∷ [] } ∷
     -- E
-    record { batches = fill 0 ∷ fill 2 ∷ fill 3 ∷ fill 4 ∷ fill 1 ∷ [];
-      seen = ids ((at 0, 1) ∷ (at 1, 1) ∷ (at 2, 1) ∷ (at 3, 1) ∷ (at 4, 1) ∷ []) ∷ [] } ∷
+    record {
+      batches = fill 0 ∷ fill 2 ∷ fill 3 ∷ fill 4 ∷ fill 1 ∷ [];
+      seen = ids ((at 0, 1) ∷ (at 1, 1) ∷ (at 2, 1) ∷ (at 3, 1) ∷ (at 4, 1) ∷ []) ∷ [];
+    } ∷
     -- F
     record { batches = fill 0 ∷ moving ((0, at 1) ∷ []) ∷ []; seen = ids ((at 1, 0) ∷ []) ∷ corners 0 (corner 1) (corner 1) ∷ [] } ∷
     -- G
@@ -125,13 +128,19 @@ cases =
     -- H
     record { batches = moving ((0, at 0) ∷ (1, at 7) ∷ []) ∷ moving ((0, at 7) ∷ (1, at 0) ∷ []) ∷ []; seen = nets [] [] ∷ [] } ∷
     -- I
-    record { batches = moving ((0, at 0) ∷ (1, cell 1 1 1 1) ∷ (2, cell 2 1 0 0) ∷ []) ∷ [];
-      seen = ids ((at 0, 0) ∷ (cell 1 1 1 1, 0) ∷ (cell 2 1 0 0, 1) ∷ []) ∷ [] } ∷
+    record {
+      batches = moving ((0, at 0) ∷ (1, cell 1 1 1 1) ∷ (2, cell 2 1 0 0) ∷ []) ∷ [];
+      seen = ids ((at 0, 0) ∷ (cell 1 1 1 1, 0) ∷ (cell 2 1 0 0, 1) ∷ []) ∷ [];
+    } ∷
     -- J
     record { batches = fill 1000000000 ∷ fill 1000000001 ∷ []; seen = numbers (0 ∷ 4 ∷ []) ∷ [] } ∷
     -- K
-    record { batches = caseB ++ (record { removals = 1 ∷ []; moves = (3, cell 1 1 1 0) ∷ [] } ∷ []);
-      seen = ids ((at 0, 0) ∷ (at 2, 0) ∷ (cell 1 1 1 0, 0) ∷ []) ∷ [] } ∷
+    record {
+      batches = caseB ++ (record { removals = 1 ∷ []; moves = (3, cell 1 1 1 0) ∷ [] } ∷ []);
+      seen = ids ((at 0, 0) ∷ (at 2, 0) ∷ (cell 1 1 1 0, 0) ∷ []) ∷ [];
+    } ∷
     -- L
-    record { batches = moving ((0, at 0) ∷ (1, at 1) ∷ (2, minus 1) ∷ []) ∷ [];
-      seen = floods (at 0) none (at 0 ∷ at 1 ∷ minus 1 ∷ []) ∷ floods (at 0) (depth 0) (at 0 ∷ []) ∷ [] } ∷ []
+    record {
+      batches = moving ((0, at 0) ∷ (1, at 1) ∷ (2, minus 1) ∷ []) ∷ [];
+      seen = floods (at 0) none (at 0 ∷ at 1 ∷ minus 1 ∷ []) ∷ floods (at 0) (depth 0) (at 0 ∷ []) ∷ [];
+    } ∷ []

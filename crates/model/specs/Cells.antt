@@ -1,9 +1,9 @@
 -- Cells and touching. A coordinate is kept as the number x + 2^31, so cell order is the order of numbers; the cell, its order and
 -- its range are those of the crate `component`.
-use Prim.Native.Nat.{ℕ, zero, suc, _+_, _-_}
-use mathlib.Core.Bool.{Bool, true, false, _&&_, _||_, not}
+use Prim.Native.Nat.{ℕ, suc, _+_, _-_}
+use mathlib.Core.Bool.{Bool, true, _&&_, _||_, not}
 use mathlib.Core.List.{List, [], _∷_, _++_}
-use lib.Dec.{eqb, leb}
+use lib.Dec.{eqb}
 use Rattle.model.specs.Lists.{keep, any, all, each}
 pub use Rattle.component.specs.declared.Cell.{Cell}
 pub use Rattle.component.specs.Order.{same, below}

@@ -1,14 +1,14 @@
 -- What consistent means: the eight points of document 01 in its order, and their conjunction. Strictly ascending rows belong to
 -- them: entity rows to point 1, cell rows to point 2, group rows to point 5, net lists to point 8.
 use Prim.Native.Nat.{ℕ}
-use mathlib.Core.Bool.{Bool, true, false, cond, _&&_, not}
-use mathlib.Core.List.{List, [], _∷_, _++_}
+use mathlib.Core.Bool.{Bool, cond, _&&_, not}
+use mathlib.Core.List.{List}
 use lib.Dec.{eqb, leb, ltb}
 use lib.ListN.{length}
 use Rattle.model.specs.Lists.{keep, all, has, without, equal, distinct, ascending, isAscending, keys, values}
 use Rattle.model.specs.Cells.{Cell, same, below, cellInRange}
 use Rattle.model.specs.Occupancy.{Occupancy, occupied}
-use Rattle.model.specs.Groups.{Ids, Groups, Group, Corner, part, records}
+use Rattle.model.specs.Groups.{Ids, Group, Corner, part, records}
 use Rattle.model.specs.Update.{State, mostEntities, mostCells}
 
 -- 1. Entities distinct, they and the occupied cells within number.

@@ -1,6 +1,6 @@
 -- Groups: rules 1 to 3, regrouping, and what is shown of a group.
 use Prim.Native.Nat.{ℕ, zero, suc, min, max}
-use mathlib.Core.Bool.{Bool, true, false, cond, not}
+use mathlib.Core.Bool.{Bool, cond, not}
 use mathlib.Core.List.{List, [], _∷_, _++_}
 use lib.Dec.{eqb, ltb}
 use lib.ListN.{length}
@@ -148,7 +148,8 @@ groupOf c cs =
       grid = c .grid;
       count = suc (length cs);
       low = run lower (cornerAt c) cs;
-      high = run higher (cornerAt c) cs }
+      high = run higher (cornerAt c) cs;
+    }
 
 -- The record of a group with these cells; a group with no cell has none.
 abbrev pub recordOf : ℕ → List Cell → List (ℕ × Group)

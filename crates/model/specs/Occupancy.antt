@@ -1,6 +1,6 @@
 -- Occupancy, event by event.
 use Prim.Native.Nat.{ℕ}
-use mathlib.Core.Bool.{Bool, true, false, cond}
+use mathlib.Core.Bool.{Bool, false, cond}
 use mathlib.Core.List.{List, [], _∷_, _++_}
 use mathlib.Core.Option.{Option, none, some}
 use lib.Dec.{eqb, ltb}
@@ -79,7 +79,8 @@ module _ (touch : Cell → Cell → Bool) where
         entities = o .entities;
         lists = put below c (keep (touch c) (occupied o)) (change (λ d l. cond (touch c d) (l ++ (c ∷ [])) l) (o .lists));
         newlyOccupied = cond (has same (o .newlyEmptied) c) (o .newlyOccupied) (add below c (o .newlyOccupied));
-        newlyEmptied = without same c (o .newlyEmptied) }
+        newlyEmptied = without same c (o .newlyEmptied);
+      }
 
   -- A cell left by its last entity is taken from each neighbour's list, the rest keep their order; if it was in the newly occupied
   -- list it leaves that list, else it joins the newly emptied list.
@@ -89,7 +90,8 @@ module _ (touch : Cell → Cell → Bool) where
         entities = o .entities;
         lists = change (λ d l. cond (touch c d) (without same c l) l) (dropKey same c (o .lists));
         newlyOccupied = without same c (o .newlyOccupied);
-        newlyEmptied = cond (has same (o .newlyOccupied) c) (o .newlyEmptied) (add below c (o .newlyEmptied)) }
+        newlyEmptied = cond (has same (o .newlyOccupied) c) (o .newlyEmptied) (add below c (o .newlyEmptied));
+      }
 
   -- The entity stands in the cell from now on; the cell opens if no entity stood there.
   abbrev pub enter : ℕ → Cell → Occupancy → Occupancy

@@ -1,8 +1,8 @@
 -- Asking: what each question answers, as values. What is not found is `none`, or a list with `found` false.
 use Prim.Native.Nat.{ℕ}
-use mathlib.Core.Bool.{Bool, true, false, cond}
-use mathlib.Core.List.{List, [], _∷_, _++_}
-use mathlib.Core.Option.{Option, none, some}
+use mathlib.Core.Bool.{Bool, false, cond}
+use mathlib.Core.List.{List, [], _∷_}
+use mathlib.Core.Option.{Option}
 use lib.Dec.{eqb}
 use Rattle.component.specs.Around.{around}
 use Rattle.model.specs.Lists.{keep, has, keys, get}
@@ -26,7 +26,8 @@ abbrev pub entitiesIn : State → Cell → Listed ℕ
 entitiesIn s c =
     record {
       found = has same (occupied (s .occupancy)) c;
-      list = keys (keep (λ (p : ℕ × Cell). same c (p .1)) (s .occupancy .entities)) }
+      list = keys (keep (λ (p : ℕ × Cell). same c (p .1)) (s .occupancy .entities));
+    }
 
 -- A cell's id.
 abbrev pub idOf : State → Cell → Option ℕ
@@ -51,4 +52,5 @@ abbrev pub cube : State → Cell → ℕ → Listed Cell
 cube s c r =
     record {
       found = has same (occupied (s .occupancy)) c;
-      list = keep (has same (occupied (s .occupancy))) (c ∷ around r c) }
+      list = keep (has same (occupied (s .occupancy))) (c ∷ around r c);
+    }

@@ -7,7 +7,7 @@ use mathlib.Core.Option.{Option, none, some}
 use lib.Dec.{T, eqb, ltb}
 use Rattle.model.specs.Lists.{keep, only, change}
 use Rattle.model.specs.Cells.{Cell}
-use Rattle.model.specs.Occupancy.{Occupancy, Batch, Passage, leaves, enters, events, startBatch, trace}
+use Rattle.model.specs.Occupancy.{Batch, Passage, leaves, enters, events, startBatch, trace}
 use Rattle.model.specs.Flood.{Depth, flood}
 use Rattle.model.specs.Update.{State, fresh, update}
 use Rattle.model.specs.Questions.{idOf, groupBy}

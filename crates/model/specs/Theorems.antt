@@ -1,4 +1,3 @@
-pub mod Paper
 pub mod NetExact
 pub mod FloodExact
 pub mod StaysConsistent

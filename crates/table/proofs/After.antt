@@ -1,6 +1,5 @@
 -- What a move leaves of the words of a table: the rows that stay, and zeros behind them.
-use Prim.Native.Nat.{ℕ, zero, suc, _+_, _-_, _*_, _≤_, _<_}
-use native.Mathlib.Nat.{mul-suc, mul-le-mul-left}
+use Prim.Native.Nat.{ℕ, zero, suc, _+_, _-_, _*_, _≤_}
 use native.Mathlib.Omega.{arith}
 use mathlib.Core.Path.{_≡_, sym, ap, _∙_}
 use mathlib.Core.List.{List, _∷_, _++_, append-assoc}
@@ -11,7 +10,7 @@ use Rattle.model.specs.Laws.Members.{gather-append}
 use Rattle.table.specs.Moves.{over, inserted, closed}
 use Rattle.table.specs.Rows.{Kind, rowOf, tableOf, imageOf, storedOf}
 use Rattle.table.specs.Kinds.{Lawful}
-use Rattle.table.specs.Words.{row-fits, table-length, words-front, words-back}
+use Rattle.table.specs.Words.{words-front, words-back}
 
 regroup : (a b c z : List ℕ) → a ++ (b ++ (c ++ z)) ≡ (a ++ (b ++ c)) ++ z
 regroup a b c z = sym (simp append-assoc)

@@ -5,9 +5,8 @@ use mathlib.Core.Bool.{true, false}
 use mathlib.Core.List.{List, [], _∷_}
 use lib.Dec.{ltb, eqb}
 use Rattle.model.specs.Lists.{keys, put, dropKey}
-use Rattle.component.specs.declared.Cell.{Cell}
 use Rattle.table.specs.declared.Place.the-variants.{Found, Missing}
-use Rattle.table.specs.Rows.{tableOf, imageOf, isTableOf, hasRoomOf, table1, image1, isTable1, hasRoom1, table4, isTable4, placeOf}
+use Rattle.table.specs.Rows.{tableOf, imageOf, isTableOf, table1, image1, isTable1, isTable4, placeOf}
 
 -- Two rows of width 2, with space for a third.
 abbrev words : List ℕ

@@ -1,17 +1,17 @@
 -- A table that is written and read again, and words that are read and written again.
-use Prim.Native.Nat.{ℕ, zero, suc, _+_, _-_, _*_, _≤_, _<_}
+use Prim.Native.Nat.{ℕ, zero, suc, _+_, _-_, _*_, _≤_}
 use native.Mathlib.Nat.{mul-suc, mul-zero}
 use native.Mathlib.Omega.{arith}
 use mathlib.Core.Path.{_≡_, refl, sym, ap, _∙_}
 use mathlib.Core.Bool.{Bool, true, false, _&&_}
 use mathlib.Core.List.{List, [], _∷_, _++_, append-assoc}
 use lib.Dec.{T, eqb, leb, eqb→eq, leb→le, le→leb}
-use lib.ListN.{length, take, drop, replicate, length-append, length-take, length-drop, length-replicate, take-append-drop}
+use lib.ListN.{length, take, drop, replicate, length-append, length-drop, length-replicate, take-append-drop}
 use lib.Seq.{take-at, drop-at, length-take-le}
-use Rattle.model.specs.Lists.{all, isAscending, gather, keys}
-use Rattle.model.specs.Laws.Tests.{and-fst, and-snd, T-true, true-of, eqb-of}
+use Rattle.model.specs.Lists.{isAscending, gather, keys}
+use Rattle.model.specs.Laws.Tests.{and-fst, and-snd, T-true, true-of}
 use Rattle.model.specs.Laws.Sorted.{Asc, isAscending-out}
-use Rattle.table.specs.Rows.{Kind, areZero, rowsOf, entryOf, rowOf, tableOf, imageOf, areWide, isTableOf}
+use Rattle.table.specs.Rows.{Kind, areZero, entryOf, rowOf, tableOf, imageOf, areWide, isTableOf}
 use Rattle.table.specs.Kinds.{Lawful}
 use Rattle.table.specs.Words.{words-all}
 
@@ -109,7 +109,8 @@ module _ {K : Type 0} (kind : Kind K) where
       unfolding imageOf
       table-of-image len t e = read-words t (replicate (len - length (gather (rowOf kind) t)) 0) e
 
-      image-fits : (len : ℕ) (t : List (K × List ℕ)) → areWide kind w t ≡ true → w * length t ≤ length (imageOf kind len t)
+      -- The image has the words of all rows.
+      pub image-fits : (len : ℕ) (t : List (K × List ℕ)) → areWide kind w t ≡ true → w * length t ≤ length (imageOf kind len t)
       unfolding imageOf
       image-fits len t e =
           let l = words-length t e in

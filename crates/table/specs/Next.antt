@@ -5,7 +5,7 @@ use native.Mathlib.Omega.{arith}
 use mathlib.Core.Path.{_≡_, sym, ap, _∙_, subst}
 use mathlib.Core.Logic.{⊎-elim}
 use mathlib.Core.Bool.{Bool, true, not}
-use mathlib.Core.List.{List, [], _∷_, List·Memᴰ as Mem}
+use mathlib.Core.List.{List, List·Memᴰ as Mem}
 use lib.Dec.{T, eqb, leb, le→leb}
 use lib.ListN.{length, take, drop, length-drop}
 use lib.Seq.{length-take-le}
@@ -14,9 +14,9 @@ use Rattle.model.specs.Laws.Tests.{and-both, T-true, true-of, eqb-of, or-left, 
 use Rattle.model.specs.Laws.Members.{all-in, all-out, keep-out, has-of}
 use Rattle.model.specs.Laws.Sorted.{Asc, isAscending-in}
 use Rattle.model.specs.Laws.Tables.{put-out, put-asc, drop-asc}
-use Rattle.table.specs.Rows.{Kind, tableOf, imageOf, storedOf, areWide, isTableOf, hasRoomOf}
+use Rattle.table.specs.Rows.{Kind, tableOf, storedOf, areWide, isTableOf, hasRoomOf}
 use Rattle.table.specs.Kinds.{Lawful}
-use Rattle.table.specs.Images.{Facts, table-facts, table-of-image, image-is-table}
+use Rattle.table.specs.Images.{table-facts, table-of-image, image-is-table}
 
 module _ {K : Type 0} (kind : Kind K) (w : ℕ) where
   -- There is room if one more row fits.

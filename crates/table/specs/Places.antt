@@ -1,14 +1,14 @@
 -- What a table's operations do at the place of a key.
-use Prim.Native.Nat.{ℕ, zero, suc, _+_, _≤_, _<_}
+use Prim.Native.Nat.{ℕ, zero, suc, _≤_, _<_}
 use native.Mathlib.Omega.{arith}
 use mathlib.Core.Path.{_≡_, refl, sym, ap, _∙_, subst}
-use mathlib.Core.Logic.{_⊎_, inl, inr, ⊎-elim}
-use mathlib.Core.Bool.{Bool, true, false, cond, _||_, not}
-use mathlib.Core.List.{List, [], _∷_, _++_, List·Memᴰ as Mem, List·Memᴰ·head as head, List·Memᴰ·tail as tail, List·Memᴰ·cases-cons as mem-cons, Memᴰ·append-right as append-right}
-use mathlib.Core.Option.{Option, none, some}
+use mathlib.Core.Logic.{⊎-elim}
+use mathlib.Core.Bool.{Bool, true, false, cond, not}
+use mathlib.Core.List.{List, [], _∷_, _++_, List·Memᴰ as Mem, List·Memᴰ·head as head, List·Memᴰ·cases-cons as mem-cons, Memᴰ·append-right as append-right}
+use mathlib.Core.Option.{none, some}
 use lib.Dec.{T, T-not, ltb, leb, ltb→lt, lt→ltb, leb→le, le→leb}
 use lib.ListN.{length, take, drop, getD, take-append-drop}
-use Rattle.model.specs.Lists.{keep, has, keys, get, put, dropKey}
+use Rattle.model.specs.Lists.{has, keys, get, put, dropKey}
 use Rattle.model.specs.Laws.Tests.{T-true, T-false, true-of, or-neither}
 use Rattle.model.specs.Laws.Orders.{Ordered, same-of, differ, lt-differ, asym}
 use Rattle.model.specs.Laws.Members.{keep-yes, keep-no, hasnt-of, of-hasnt}

@@ -88,46 +88,58 @@ abbrev pub placeOf : {K : Type 0} → (K → K → Bool) → List K → K → Pl
 placeOf lt [] k = Missing zero
 placeOf lt (a ∷ l) k = cond (lt k a) (Missing zero) (cond (lt a k) (further (placeOf lt l k)) (Found zero))
 
--- The same by a key of one word.
+-- The key of one word of a row.
 abbrev pub key1 : List ℕ → ℕ
 key1 r = entryOf number r .0
 
+-- The words of a row behind a key of one word.
 abbrev pub rest1 : List ℕ → List ℕ
 rest1 r = entryOf number r .1
 
+-- The first n rows of width w as a table by a key of one word.
 abbrev pub table1 : ℕ → ℕ → List ℕ → List (ℕ × List ℕ)
 table1 = tableOf number
 
+-- The words of a table by a key of one word.
 abbrev pub image1 : ℕ → List (ℕ × List ℕ) → List ℕ
 image1 = imageOf number
 
+-- What is stored of a table by a key of one word.
 abbrev pub stored1 : ℕ → List (ℕ × List ℕ) → ℕ × List ℕ
 stored1 = storedOf number
 
+-- Whether the words are those of a table by a key of one word.
 abbrev pub isTable1 : ℕ → ℕ → List ℕ → Bool
 isTable1 = isTableOf number
 
+-- Whether a row of a key of one word can be put.
 abbrev pub hasRoom1 : ℕ → ℕ → List ℕ → ℕ → Bool
 hasRoom1 = hasRoomOf number
 
--- The same by a key of four words.
+-- The key of four words of a row.
 abbrev pub key4 : List ℕ → Cell
 key4 r = entryOf cell r .0
 
+-- The words of a row behind a key of four words.
 abbrev pub rest4 : List ℕ → List ℕ
 rest4 r = entryOf cell r .1
 
+-- The first n rows of width w as a table by a key of four words.
 abbrev pub table4 : ℕ → ℕ → List ℕ → List (Cell × List ℕ)
 table4 = tableOf cell
 
+-- The words of a table by a key of four words.
 abbrev pub image4 : ℕ → List (Cell × List ℕ) → List ℕ
 image4 = imageOf cell
 
+-- What is stored of a table by a key of four words.
 abbrev pub stored4 : ℕ → List (Cell × List ℕ) → ℕ × List ℕ
 stored4 = storedOf cell
 
+-- Whether the words are those of a table by a key of four words.
 abbrev pub isTable4 : ℕ → ℕ → List ℕ → Bool
 isTable4 = isTableOf cell
 
+-- Whether a row of a key of four words can be put.
 abbrev pub hasRoom4 : ℕ → ℕ → List ℕ → Cell → Bool
 hasRoom4 = hasRoomOf cell

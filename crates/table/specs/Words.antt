@@ -1,12 +1,12 @@
 -- Which words a row and the rows of a table have.
-use Prim.Native.Nat.{ℕ, zero, suc, _+_, _-_, _*_, _≤_, _<_}
+use Prim.Native.Nat.{ℕ, zero, suc, _+_, _*_, _≤_, _<_}
 use native.Mathlib.Nat.{le-of-suc-le-suc, not-suc-le-zero, suc-add, add-zero, zero-add, add-comm, mul-suc, mul-zero, mul-le-mul-left}
 use native.Mathlib.Omega.{arith}
 use mathlib.Core.Path.{_≡_, refl, sym, ap, _∙_}
 use mathlib.Core.List.{List, [], _∷_, _++_}
-use lib.ListN.{length, take, drop, getD, length-take, length-drop}
+use lib.ListN.{length, take, drop, getD, length-drop}
 use lib.Seq.{slice, getD-take, getD-drop, take-add, drop-drop, take-nil, length-take-le}
-use Rattle.model.specs.Lists.{each, gather, keys}
+use Rattle.model.specs.Lists.{gather, keys}
 use Rattle.component.specs.declared.Cell.{Cell}
 use Rattle.table.specs.Rows.{Kind, number, cell, cellAt, rowsOf, entryOf, rowOf, tableOf, table1, table4}
 use Rattle.table.specs.Kinds.{Lawful}

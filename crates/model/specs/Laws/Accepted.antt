@@ -1,16 +1,16 @@
 -- What an accepted batch leaves.
 use Prim.Native.Nat.{ℕ, _≤_}
 use native.Mathlib.Omega.{arith}
-use mathlib.Core.Path.{_≡_, refl, sym, _∙_, ap, subst}
+use mathlib.Core.Path.{_≡_, refl, sym, subst}
 use mathlib.Core.Bool.{Bool, true, false, cond, not}
 use mathlib.Core.List.{List, [], _∷_}
-use lib.Dec.{T, T-not, eqb, ltb, nltb→le}
+use lib.Dec.{T, T-not, eqb, nltb→le}
 use lib.ListN.{length}
 use Rattle.model.specs.Lists.{all, run}
 use Rattle.model.specs.Cells.{Cell, cellInRange}
-use Rattle.model.specs.Occupancy.{Occupancy, Event, Batch, events, occupied, startBatch, play, playBatch}
+use Rattle.model.specs.Occupancy.{Occupancy, Event, Batch, events, occupied, startBatch, play}
 use Rattle.model.specs.Update.{State, mostEvents, mostEntities, mostCells, lastNext, tooManyEvents, outOfRange, fewIds, tooManyEntities, tooManyCells, brokenBy, refusal, accepted, update}
-use Rattle.model.specs.Laws.Tests.{T-true, T-false, decided}
+use Rattle.model.specs.Laws.Tests.{T-true, T-false}
 
 -- Where a test with a number comes out at 0, the test fails and what follows it comes out at 0.
 passed : (b : Bool) (n r : ℕ) → (n ≡ 0 → ⊥) → cond b n r ≡ 0 → T (not b) × (r ≡ 0)
@@ -38,7 +38,8 @@ accepts touch s b e =
       few-events = nltb→le mostEvents (length (events b)) (r3 .0);
       in-range = twice (all (λ (m : ℕ × Cell). cellInRange (m .1)) (b .moves)) (r4 .0);
       ids-left = nltb→le lastNext (s .groups .next) (r5 .0);
-      unbroken = r5 .1 }
+      unbroken = r5 .1;
+    }
 
 module _ (touch : Cell → Cell → Bool) where
   -- An update with the number 0 was not refused and leaves the accepted state.
@@ -66,4 +67,5 @@ module _ (touch : Cell → Cell → Bool) where
       unbroken-within es (play touch o ev) (r7 .1)
       (record {
         entities = nltb→le mostEntities (length (play touch o ev .entities)) (r6 .0);
-        cells = nltb→le mostCells (length (occupied (play touch o ev))) (r7 .0) })
+        cells = nltb→le mostCells (length (occupied (play touch o ev))) (r7 .0);
+      })

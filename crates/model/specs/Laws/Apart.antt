@@ -32,7 +32,8 @@ sim-trans s t u a b =
       uses = λ q m. (a .uses q m, b .uses (q .0, a .f (q .1)) (subst (λ i. Mem (q .0, a .f (q .1)) i) (sym (a .same)) (each-in (λ (p : Cell × ℕ). (p .0, a .f (p .1))) m)));
       low = λ g l. a .low g (l .0);
       low′ = λ g l. b .low′ (a .f g) (l .1);
-      mono = λ g h l k. b .mono (a .f g) (a .f h) (l .1) (k .1) ∙ a .mono g h (l .0) (k .0) }
+      mono = λ g h l k. b .mono (a .f g) (a .f h) (l .1) (k .1) ∙ a .mono g h (l .0) (k .0);
+    }
 
 -- The old name of an id.
 inv : (ℕ → ℕ) → Ids → ℕ → ℕ
@@ -61,10 +62,12 @@ sim-sym s t a =
       low = λ k l. subst (λ x. x < t .next) (sym (l .2)) (a .low′ (l .0 .1) (a .uses (l .0) (l .1)));
       low′ = λ k l. subst (λ x. x < s .next) (sym (at l)) (a .low (l .0 .1) (a .uses (l .0) (l .1)));
       mono = λ g h l k.
-        ap₂ (λ x y. ltb x y) (at l) (at k) ∙ sym (a .mono (l .0 .1) (k .0 .1) (a .uses (l .0) (l .1)) (a .uses (k .0) (k .1))) ∙ ap₂ (λ x y. ltb x y) (sym (l .2)) (sym (k .2)) }
+          ap₂ (λ x y. ltb x y) (at l) (at k) ∙ sym (a .mono (l .0 .1) (k .0 .1) (a .uses (l .0) (l .1)) (a .uses (k .0) (k .1))) ∙ ap₂ (λ x y. ltb x y) (sym (l .2)) (sym (k .2));
+    }
   where
     back : (q : Cell × ℕ) → Mem q (s .ids) → inv (a .f) (s .ids) (a .f (q .1)) ≡ q .1
     back = inv-of (a .f) (a .L) (a .mono) (s .ids) (a .uses)
+
     at : {k : ℕ} (l : (q : Cell × ℕ) × Mem q (s .ids) × (k ≡ a .f (q .1))) → inv (a .f) (s .ids) k ≡ l .0 .1
     at l = ap (λ x. inv (a .f) (s .ids) x) (l .2) ∙ back (l .0) (l .1)
 
@@ -72,9 +75,14 @@ sim-sym s t a =
 pub sim-self : (s : Groups) → ((q : Cell × ℕ) → Mem q (s .ids) → q .1 < s .next) → Sim s s
 sim-self s u =
     record {
-      f = λ g. g; L = λ g. g < s .next;
+      f = λ g. g;
+      L = λ g. g < s .next;
       same = sym (change-same (λ c g. g) (s .ids) (λ q m. refl));
-      uses = u; low = λ g l. l; low′ = λ g l. l; mono = λ g h l k. refl }
+      uses = u;
+      low = λ g l. l;
+      low′ = λ g l. l;
+      mono = λ g h l k. refl;
+    }
 
 module _ (touch : Cell → Cell → Bool) (flip : (a b : Cell) → T (touch a b) → T (touch b a)) (on : Cell → Bool) (stays : (a b : Cell) → T (touch a b) → T (on a) → T (on b)) where
   -- Rule 1 for some cells, seen on the set, against the set by itself.
@@ -85,6 +93,7 @@ module _ (touch : Cell → Cell → Bool) (flip : (a b : Cell) → T (touch a b)
     where
       free′ : (b : Cell) → Mem b l → Free same (rule1 touch s c .ids) b
       free′ b m g p = ⊎-elim (λ e. cells .irrefl c (subst (λ x. T (below c x)) e (asc-head al b m))) (λ d. free b (tail m) (d .0) (d .1)) (rule1-cases touch s c (g, p))
+
       go : ((t′ : Groups) → Sim (view on (rule1 touch s c)) t′ → Sim (view on (run (rule1 touch) (rule1 touch s c) l)) (run (rule1 touch) t′ (keep on l))) → (b : Bool) → on c ≡ b → Sim (view on (run (rule1 touch) (rule1 touch s c) l)) (run (rule1 touch) t (cond b (c ∷ keep on l) (keep on l)))
       go rec true e = rec (rule1 touch t c) (subst (λ v. Sim v (rule1 touch t c)) (sym (rule1-on touch on stays s ok asc c (T-true e))) (rule1-sim (view on s) t sim touch c .then))
       go rec false e = rec t (bump (view on s) t (only on (rule1 touch s c .ids)) (rule1 touch s c .next) sim (rule1-off touch on stays s ok asc c flip (T-false e)) (rule1-onward touch s c .grows))
@@ -97,18 +106,25 @@ module _ (touch : Cell → Cell → Bool) (flip : (a b : Cell) → T (touch a b)
     where
       s₁ : Groups
       s₁ = run (rule1 touch) s filled
+
       t₁ : Groups
       t₁ = run (rule1 touch) t (keep on filled)
+
       s₂ : Groups
       s₂ = rule2 touch gone s₁
+
       t₂ : Groups
       t₂ = rule2 touch (keep on gone) t₁
+
       ok₁ : Fine touch [] s₁
       ok₁ = rules1-fine touch flip filled s ok al free
+
       sim₂ : Sim (view on s₂) t₂
       sim₂ = subst (λ v. Sim v t₂) (sym (rule2-view touch on gone s₁)) (rule2-sim (view on s₁) t₁ (rules1-lock filled s t sim ok asc al free) touch (keep on gone) .then)
+
       old : {q : Cell × ℕ} → Mem q (s₂ .ids) → Mem q (s₁ .ids)
       old m = keep-out (λ (p : Cell × ℕ). not (has same gone (p .0))) (s₁ .ids) m .0
+
       one-side : (p q : Cell × ℕ) → Mem p (s₂ .ids) → Mem q (s₂ .ids) → p .1 ≡ q .1 → T (on (p .0)) → T (on (q .0))
       one-side p q m k e o = path-on touch on stays (ok₁ .joined (ok₁ .fair p (old m)) (subst (λ g. At same (s₁ .ids) (q .0) g) (sym e) (ok₁ .fair q (old k))) (λ j. mem-nil j)) o
 
@@ -121,9 +137,9 @@ module _ (touch : Cell → Cell → Bool) (flip : (a b : Cell) → T (touch a b)
   regroups-agree filled gone filled′ gone′ s s′ sim ok ok′ asc asc′ al al′ free free′ e d =
       sim-trans (view on (regroup touch filled gone s)) both (view on (regroup touch filled′ gone′ s′))
       (subst (λ g. Sim (view on (regroup touch filled gone s)) (regroup touch (keep on filled′) g (view on s′))) d
-        (subst (λ f. Sim (view on (regroup touch filled gone s)) (regroup touch f (keep on gone) (view on s′))) e (regroup-lock filled gone s (view on s′) sim ok asc al free)))
+      (subst (λ f. Sim (view on (regroup touch filled gone s)) (regroup touch f (keep on gone) (view on s′))) e (regroup-lock filled gone s (view on s′) sim ok asc al free)))
       (sim-sym (view on (regroup touch filled′ gone′ s′)) both
-        (regroup-lock filled′ gone′ s′ (view on s′) (sim-self (view on s′) (λ q m. ok′ .under (ok′ .fair q (keep-out (λ (p : Cell × ℕ). on (p .0)) (s′ .ids) m .0)))) ok′ asc′ al′ free′))
+      (regroup-lock filled′ gone′ s′ (view on s′) (sim-self (view on s′) (λ q m. ok′ .under (ok′ .fair q (keep-out (λ (p : Cell × ℕ). on (p .0)) (s′ .ids) m .0)))) ok′ asc′ al′ free′))
     where
       both : Groups
       both = regroup touch (keep on filled′) (keep on gone′) (view on s′)

@@ -1,24 +1,23 @@
 -- The eight tests of consistency say exactly what a record of facts says.
 use Prim.Native.Nat.{ℕ, _≤_, _<_}
-use mathlib.Core.Path.{_≡_, refl, sym, _∙_, ap, subst}
-use mathlib.Core.Logic.{_⊎_, inl, inr, ⊎-elim, _↔_}
-use mathlib.Core.Bool.{Bool, true, false, cond, _&&_, not}
-use mathlib.Core.List.{List, [], _∷_, _++_, List·Memᴰ as Mem, List·Memᴰ·not-nil as mem-nil}
-use lib.Dec.{T, T-not, not-T, eqb, eqb→eq, eqb-refl, leb, leb→le, le→leb, ltb, ltb→lt, lt→ltb}
+use mathlib.Core.Path.{_≡_, refl, sym, _∙_, subst}
+use mathlib.Core.Bool.{Bool, _&&_, not}
+use mathlib.Core.List.{List, [], List·Memᴰ as Mem, List·Memᴰ·not-nil as mem-nil}
+use lib.Dec.{T, eqb, eqb→eq, eqb-refl, leb, leb→le, le→leb, ltb, ltb→lt, lt→ltb}
 use lib.ListN.{length}
-use Rattle.model.specs.Lists.{keep, all, has, distinct, equal, ascending, isAscending, keys, values}
+use Rattle.model.specs.Lists.{keep, all, has, distinct, equal, isAscending, keys, values}
 use Rattle.model.specs.Cells.{Cell, same, below, cellInRange}
 use Rattle.model.specs.Occupancy.{Occupancy, occupied}
-use Rattle.model.specs.Paths.{Path, Joined, stop, step}
+use Rattle.model.specs.Paths.{stop, step}
 use Rattle.model.specs.Groups.{Ids, Groups, Group, Corner, records}
 use Rattle.model.specs.Update.{State, mostEntities, mostCells}
 use Rattle.model.specs.Consistent.{withinNumber, standing, cellsExact, listExact, listsExact, idsShared, sameCorner, sameRecord, recordsExact, idsBelowNext, coordinatesInRange, netsInOrder, consistent}
 use Rattle.model.specs.Laws.Tests.{and-fst, and-snd, and-both}
 use Rattle.model.specs.Laws.Orders.{cells}
-use Rattle.model.specs.Laws.Members.{all-in, all-out, has-of, of-has, hasnt-of, of-hasnt, keep-in, keep-out, key-in, distinct-in, distinct-out, equal-in, equal-out}
+use Rattle.model.specs.Laws.Members.{all-in, all-out, has-of, of-has, hasnt-of, of-hasnt, keep-in, keep-out, distinct-in, distinct-out, equal-in, equal-out}
 use Rattle.model.specs.Laws.Sorted.{Asc, isAscending-in, isAscending-out, ascending-asc}
-use Rattle.model.specs.Laws.Tables.{At, In, Fair, at-mem, at-key, key-at, asc-fair, at-once}
-use Rattle.model.specs.Laws.Values.{value-in, value-out}
+use Rattle.model.specs.Laws.Tables.{At, at-mem, at-key, key-at, asc-fair, at-once}
+use Rattle.model.specs.Laws.Values.{value-in}
 use Rattle.model.specs.Laws.Walks.{wider}
 use Rattle.model.specs.Laws.Shared.{Shared, shared-in, shared-out}
 use Rattle.model.specs.Laws.Occupied.{Exact, Sound}
@@ -61,18 +60,25 @@ record-eq p q t = λ i. (id i, record { grid = grid i; count = count i; low = lo
   where
     t1 : T (eqb (p .1 .grid) (q .1 .grid) && (eqb (p .1 .count) (q .1 .count) && (sameCorner (p .1 .low) (q .1 .low) && sameCorner (p .1 .high) (q .1 .high))))
     t1 = and-snd (eqb (p .0) (q .0)) _ t
+
     t2 : T (eqb (p .1 .count) (q .1 .count) && (sameCorner (p .1 .low) (q .1 .low) && sameCorner (p .1 .high) (q .1 .high)))
     t2 = and-snd (eqb (p .1 .grid) (q .1 .grid)) _ t1
+
     t3 : T (sameCorner (p .1 .low) (q .1 .low) && sameCorner (p .1 .high) (q .1 .high))
     t3 = and-snd (eqb (p .1 .count) (q .1 .count)) _ t2
+
     id : p .0 ≡ q .0
     id = eqb→eq _ _ (and-fst (eqb (p .0) (q .0)) _ t)
+
     grid : p .1 .grid ≡ q .1 .grid
     grid = eqb→eq _ _ (and-fst (eqb (p .1 .grid) (q .1 .grid)) _ t1)
+
     count : p .1 .count ≡ q .1 .count
     count = eqb→eq _ _ (and-fst (eqb (p .1 .count) (q .1 .count)) _ t2)
+
     low : p .1 .low ≡ q .1 .low
     low = corner-eq _ _ (and-fst (sameCorner (p .1 .low) (q .1 .low)) _ t3)
+
     high : p .1 .high ≡ q .1 .high
     high = corner-eq _ _ (and-snd (sameCorner (p .1 .low) (q .1 .low)) _ t3)
 
@@ -109,7 +115,8 @@ module _ (touch : Cell → Cell → Bool) where
         record {
           once = distinct-out cells l (p .0);
           only = λ {d} m. let v : T (touch c d) × T (has same among d) = both (touch c d) (has same among d) (all-out (λ d. touch c d && has same among d) l (u .0) m) in (of-has cells among (v .1), v .0);
-          every = λ {d} m w. of-has cells l (all-out (has same l) (keep (touch c) among) (u .1) (keep-in (touch c) m w)) }
+          every = λ {d} m w. of-has cells l (all-out (has same l) (keep (touch c) among) (u .1) (keep-in (touch c) m w));
+        }
 
   module _ (flip : (a b : Cell) → T (touch a b) → T (touch b a)) (s : State) where
     abbrev o : Occupancy
@@ -118,46 +125,65 @@ module _ (touch : Cell → Cell → Bool) where
     -- Points 2 to 8 from the first to the last, each with what follows it.
     abbrev from8 : Bool
     from8 = netsInOrder s
+
     abbrev from7 : Bool
     from7 = coordinatesInRange s && from8
+
     abbrev from6 : Bool
     from6 = idsBelowNext s && from7
+
     abbrev from5 : Bool
     from5 = recordsExact s && from6
+
     abbrev from4 : Bool
     from4 = idsShared touch s && from5
+
     abbrev from3 : Bool
     from3 = listsExact touch s && from4
+
     abbrev from2 : Bool
     from2 = cellsExact s && from3
 
     -- The parts of points 1, 2, 7 and 8.
     abbrev ents-asc : Bool
     ents-asc = isAscending ltb (keys (o .entities))
+
     abbrev ents-few : Bool
     ents-few = leb (length (o .entities)) mostEntities
+
     abbrev cells-few : Bool
     cells-few = leb (length (occupied o)) mostCells
+
     abbrev ids-stand : Bool
     ids-stand = equal same (keys (s .groups .ids)) (standing s)
+
     abbrev cells-stand : Bool
     cells-stand = equal same (occupied o) (standing s)
+
     abbrev range-e : Bool
     range-e = all cellInRange (values (o .entities))
+
     abbrev range-o : Bool
     range-o = all cellInRange (o .newlyOccupied)
+
     abbrev range-m : Bool
     range-m = all cellInRange (o .newlyEmptied)
+
     abbrev asc-o : Bool
     asc-o = isAscending below (o .newlyOccupied)
+
     abbrev asc-m : Bool
     asc-m = isAscending below (o .newlyEmptied)
+
     abbrev few-o : Bool
     few-o = leb (length (o .newlyOccupied)) mostCells
+
     abbrev few-m : Bool
     few-m = leb (length (o .newlyEmptied)) mostCells
+
     abbrev in-o : Bool
     in-o = all (has same (occupied o)) (o .newlyOccupied)
+
     abbrev out-m : Bool
     out-m = all (λ c. not (has same (occupied o) c)) (o .newlyEmptied)
 
@@ -186,7 +212,8 @@ module _ (touch : Cell → Cell → Bool) where
           sound = record {
             asc = isAscending-out (keys (o .entities)) (n1 .0);
             cells = here;
-            exact = λ c l m. exact-out (occupied o) c l (all-out (λ (p : Cell × List Cell). listExact touch (occupied o) (p .0) (p .1)) (o .lists) (p3 .0) m) };
+            exact = λ c l m. exact-out (occupied o) c l (all-out (λ (p : Cell × List Cell). listExact touch (occupied o) (p .0) (p .1)) (o .lists) (p3 .0) m);
+          };
           few-entities = leb→le (length (o .entities)) mostEntities (n2 .0);
           few-cells = leb→le (length (occupied o)) mostCells (n2 .1);
           id-cells = equal-out same (cells .same-eq) (keys (s .groups .ids)) (standing s) (c1 .0) ∙ sym here;
@@ -201,14 +228,15 @@ module _ (touch : Cell → Cell → Bool) where
           few-occupied = leb→le (length (o .newlyOccupied)) mostCells (m3 .0);
           few-emptied = leb→le (length (o .newlyEmptied)) mostCells (m4 .0);
           in-occupied = λ c m. of-has cells (occupied o) (all-out (has same (occupied o)) (o .newlyOccupied) (m5 .0) m);
-          not-emptied = λ c m. of-hasnt cells (occupied o) (all-out (λ c. not (has same (occupied o) c)) (o .newlyEmptied) (m5 .1) m) }
+          not-emptied = λ c m. of-hasnt cells (occupied o) (all-out (λ c. not (has same (occupied o) c)) (o .newlyEmptied) (m5 .1) m);
+        }
 
     -- A state that is Ok is consistent.
     pub ok-in : Ok touch s → T (consistent touch s)
     ok-in k =
         and-both (withinNumber s) from2
         (and-both ents-asc (ents-few && cells-few) (isAscending-in (k .sound .asc))
-          (and-both ents-few cells-few (le→leb (length (o .entities)) mostEntities (k .few-entities)) (le→leb (length (occupied o)) mostCells (k .few-cells))))
+        (and-both ents-few cells-few (le→leb (length (o .entities)) mostEntities (k .few-entities)) (le→leb (length (occupied o)) mostCells (k .few-cells))))
         (and-both (cellsExact s) from3
         (and-both ids-stand cells-stand (equal-in same (cells .same-self) (k .id-cells ∙ k .sound .cells)) (equal-in same (cells .same-self) (k .sound .cells)))
         (and-both (listsExact touch s) from4
@@ -218,7 +246,7 @@ module _ (touch : Cell → Cell → Bool) where
         (and-both (idsBelowNext s) from7 (all-in (λ g. ltb g (s .groups .next)) (values (s .groups .ids)) (λ g m. lt→ltb g (s .groups .next) (k .under g m)))
         (and-both (coordinatesInRange s) from8
         (and-both range-e (range-o && range-m) (all-in cellInRange (values (o .entities)) (k .range-entities))
-          (and-both range-o range-m (all-in cellInRange (o .newlyOccupied) (k .range-occupied)) (all-in cellInRange (o .newlyEmptied) (k .range-emptied))))
+        (and-both range-o range-m (all-in cellInRange (o .newlyOccupied) (k .range-occupied)) (all-in cellInRange (o .newlyEmptied) (k .range-emptied))))
         (and-both asc-o (asc-m && (few-o && (few-m && (in-o && out-m)))) (isAscending-in (k .asc-occupied))
         (and-both asc-m (few-o && (few-m && (in-o && out-m))) (isAscending-in (k .asc-emptied))
         (and-both few-o (few-m && (in-o && out-m)) (le→leb (length (o .newlyOccupied)) mostCells (k .few-occupied))
@@ -240,13 +268,15 @@ module _ (touch : Cell → Cell → Bool) where
           fair = asc-fair cells ids ids-asc;
           under = λ {a} {g} p. k .under g (value-in (at-mem cells ids p));
           edge = λ {a} {b} {g} {h} p q t. k .shared (a, g) (b, h) (at-mem cells ids p) (at-mem cells ids q) .1 (step (at-key cells ids p) t (stop (at-key cells ids q) refl));
-          joined = λ {a} {b} {g} p q n. wider touch (λ x m. key-at cells ids m) (k .shared (a, g) (b, g) (at-mem cells ids p) (at-mem cells ids q) .0 refl) }
+          joined = λ {a} {b} {g} p q n. wider touch (λ x m. key-at cells ids m) (k .shared (a, g) (b, g) (at-mem cells ids p) (at-mem cells ids q) .0 refl);
+        }
 
     pub steady-of : Steady touch s
     steady-of = record { sound = k .sound; fine = fine-of; idCells = k .id-cells; shown = k .records-are }
 
   pub shared-of : (g : Groups) → Fine touch [] g → Shared touch (g .ids)
   shared-of g f p q m k =
-      let a = f .fair p m in let b = f .fair q k in
-      (λ e. wider touch (λ x d. at-key cells (g .ids) (d .1)) (f .joined a (subst (λ h. At same (g .ids) (q .0) h) (sym e) b) (λ n. mem-nil n)),
-       λ w. at-once (along f a (wider touch (λ x d. key-at cells (g .ids) d) w)) b)
+      let a = f .fair p m in let b = f .fair q k in (
+        λ e. wider touch (λ x d. at-key cells (g .ids) (d .1)) (f .joined a (subst (λ h. At same (g .ids) (q .0) h) (sym e) b) (λ n. mem-nil n)),
+        λ w. at-once (along f a (wider touch (λ x d. key-at cells (g .ids) d) w)) b,
+      )

@@ -48,16 +48,18 @@ module _ (touch : Cell → Cell → Bool) (laws : Touching touch) (grid : ℕ) (
       record {
         asc = rows-asc numbers (λ (p : ℕ × Cell). onGrid grid (p .1)) (o .entities) (ok .asc);
         cells =
-          occupied-on grid o ∙ ap (keep (onGrid grid)) (ok .cells) ∙ keep-ascending cells (onGrid grid) (values (o .entities))
-          ∙ ap (ascending below) (keep-each (λ (p : ℕ × Cell). p .1) (onGrid grid) (o .entities));
+            occupied-on grid o ∙ ap (keep (onGrid grid)) (ok .cells) ∙ keep-ascending cells (onGrid grid) (values (o .entities))
+            ∙ ap (ascending below) (keep-each (λ (p : ℕ × Cell). p .1) (onGrid grid) (o .entities));
         exact = λ c l m.
-          let r : Mem (c, l) (o .lists) × T (onGrid grid c) = keep-out (λ (p : Cell × List Cell). onGrid grid (p .0)) (o .lists) m in
-          let x : Exact touch (occupied o) c l = ok .exact c l (r .0) in
-          subst (λ k. Exact touch k c l) (sym (occupied-on grid o))
-          (record {
-            once = x .once;
-            only = λ {d} k. (keep-in (onGrid grid) (x .only k .0) (stays-on laws grid c d (x .only k .1) (r .1)), x .only k .1);
-            every = λ {d} k t. x .every (keep-out (onGrid grid) (occupied o) k .0) t }) }
+            let r : Mem (c, l) (o .lists) × T (onGrid grid c) = keep-out (λ (p : Cell × List Cell). onGrid grid (p .0)) (o .lists) m in
+            let x : Exact touch (occupied o) c l = ok .exact c l (r .0) in
+            subst (λ k. Exact touch k c l) (sym (occupied-on grid o))
+            (record {
+              once = x .once;
+              only = λ {d} k. (keep-in (onGrid grid) (x .only k .0) (stays-on laws grid c d (x .only k .1) (r .1)), x .only k .1);
+              every = λ {d} k t. x .every (keep-out (onGrid grid) (occupied o) k .0) t;
+            });
+      }
 
   -- An occupied cell of the view is on the grid.
   viewed-out : {a : Cell} → Mem a (occupied (viewed grid o)) → Mem a (occupied o) × T (onGrid grid a)
@@ -77,6 +79,7 @@ module _ (touch : Cell → Cell → Bool) (laws : Touching touch) (grid : ℕ) (
     where
       new : List Cell
       new = minus same (listOf (o .lists) c) marked
+
       on′ : (a : Cell) → Mem a (queue ++ new) → T (onGrid grid a)
       on′ a m =
           ⊎-elim (λ k. q a (tail k))
@@ -89,11 +92,16 @@ module _ (touch : Cell → Cell → Bool) (laws : Touching touch) (grid : ℕ) (
     where
       lists′ : List (Cell × List Cell)
       lists′ = viewed grid o .lists
+
       bound : Mem seed (occupied (viewed grid o)) → (j : ℕ) → length (visit lists′ j (seed ∷ []) (seed ∷ [])) ≤ length lists′
       bound h j =
-          omega (arith, keys-length lists′,
+          omega (
+            arith,
+            keys-length lists′,
             once-shorter (visit-once lists′ (listOf-once touch (viewed grid o) viewed-sound) j (seed ∷ []) (seed ∷ []) (once-cons mem-nil once-nil) (λ a m. m)) (occupied (viewed grid o))
-              (λ a m. visit-all lists′ (λ c. Mem c (occupied (viewed grid o))) (λ c d x k. listOf-in touch (viewed grid o) viewed-sound c d k) j (seed ∷ []) (seed ∷ []) (λ c k. mem-cast (mem-one k) h) m))
+                (λ a m. visit-all lists′ (λ c. Mem c (occupied (viewed grid o))) (λ c d x k. listOf-in touch (viewed grid o) viewed-sound c d k) j (seed ∷ []) (seed ∷ []) (λ c k. mem-cast (mem-one k) h) m),
+          )
+
       yes′ : Mem seed (occupied o) → wholeFlood o seed ≡ wholeFlood (viewed grid o) seed
       yes′ m =
           let h : Mem seed (occupied (viewed grid o)) = subst (λ l. Mem seed l) (sym (occupied-on grid o)) (keep-in (onGrid grid) m u) in
@@ -101,6 +109,7 @@ module _ (touch : Cell → Cell → Bool) (laws : Touching touch) (grid : ℕ) (
           ∙ visit-on (length (o .lists)) (seed ∷ []) (seed ∷ []) (λ a k. subst (λ x. T (onGrid grid x)) (sym (mem-one k)) u)
           ∙ visit-fuel lists′ (length lists′) (seed ∷ []) (seed ∷ []) (bound h) (length (o .lists)) (keep-shorter (λ (p : Cell × List Cell). onGrid grid (p .0)) (o .lists))
           ∙ sym (cond-yes (has same (occupied (viewed grid o)) seed) _ _ (has-of cells h))
+
       no′ : (Mem seed (occupied o) → ⊥) → wholeFlood o seed ≡ wholeFlood (viewed grid o) seed
       no′ n = whole-none o seed n ∙ sym (whole-none (viewed grid o) seed (λ m. n (viewed-out m .0)))
 

@@ -58,9 +58,12 @@ module _ (touch : Cell → Cell → Bool) (o : Occupancy) (ok : Sound touch o) w
     -- There are cells enough to visit.
     lasts : 1 + length (minus same (occupied o) (seed ∷ [])) ≤ length (o .lists)
     lasts =
-        omega (arith, keys-length (o .lists),
+        omega (
+          arith,
+          keys-length (o .lists),
           once-shorter (once-cons (λ k. minus-out cells (occupied o) (seed ∷ []) k .1 (head refl)) (once-keep _ (occupied o) (asc-once cells (occupied-asc touch o ok)))) (occupied o)
-            (λ a m. ⊎-elim (λ e. mem-cast e h) (λ k. minus-out cells (occupied o) (seed ∷ []) k .0) (mem-cons {b = seed} {l = minus same (occupied o) (seed ∷ [])} m)))
+              (λ a m. ⊎-elim (λ e. mem-cast e h) (λ k. minus-out cells (occupied o) (seed ∷ []) k .0) (mem-cons {b = seed} {l = minus same (occupied o) (seed ∷ [])} m)),
+        )
 
     -- The seed comes first.
     pub whole-first : (rest : List Cell) × (wholeFlood o seed ≡ seed ∷ rest)
@@ -80,7 +83,7 @@ module _ (touch : Cell → Cell → Bool) (o : Occupancy) (ok : Sound touch o) w
     whole-closed {a} {b} m k =
         subst (λ l. Mem b l) (sym whole-visit)
         (⊎-elim (λ j. j) (λ j. visit-queued (o .lists) listOf-once (occupied o) (asc-once cells (occupied-asc touch o ok)) listOf-in (length (o .lists)) (seed ∷ []) (seed ∷ []) lasts j)
-          (visit-closed (o .lists) listOf-once (occupied o) (asc-once cells (occupied-asc touch o ok)) listOf-in (length (o .lists)) (seed ∷ []) (seed ∷ []) lasts (subst (λ l. Mem a l) whole-visit m) k))
+        (visit-closed (o .lists) listOf-once (occupied o) (asc-once cells (occupied-asc touch o ok)) listOf-in (length (o .lists)) (seed ∷ []) (seed ∷ []) lasts (subst (λ l. Mem a l) whole-visit m) k))
 
     -- A path from a cell that comes leads to one that comes.
     along : {a b : Cell} → Mem a (wholeFlood o seed) → Joined touch (occupied o) a b → Mem b (wholeFlood o seed)

@@ -31,8 +31,8 @@ Held base s = (h : ℕ) → base ≤ h → h < s .next → (a : Cell) × At same
 pub held-few : (base : ℕ) (s : Groups) → Held base s → s .next ≤ base + length (s .ids)
 held-few base s held =
     let h : length (count base (s .next - base)) ≤ length (values (s .ids)) =
-      once-shorter (asc-once numbers (count-asc base (s .next - base))) (values (s .ids))
-      (λ a m. let k = count-out base (s .next - base) m in at-value (s .ids) (held a (k .0) (omega (arith, k .1)) .1)) in
+    once-shorter (asc-once numbers (count-asc base (s .next - base))) (values (s .ids))
+    (λ a m. let k = count-out base (s .next - base) m in at-value (s .ids) (held a (k .0) (omega (arith, k .1)) .1)) in
     omega (arith, count-length base (s .next - base), each-length (λ (q : Cell × ℕ). q .1) (s .ids))
 
 module _ (touch : Cell → Cell → Bool) (flip : (a b : Cell) → T (touch a b) → T (touch b a)) where
@@ -42,23 +42,27 @@ module _ (touch : Cell → Cell → Bool) (flip : (a b : Cell) → T (touch a b)
     where
       group : List Cell
       group = members (s .ids) g
+
       go : (l : List (List Cell)) → parts touch group ≡ l → Held base (splitInto touch s l)
       go [] e h up down = held h up down
       go (p ∷ ps) e h up down =
           ⊎-elim
           (λ t. let r : (a : Cell) × At same (s .ids) a h = held h up (ltb→lt h (s .next) t) in
-            (r .0, takes-other touch (takers touch p ps) s (r .1) (λ q m k. let d : g ≡ h = at-once (of q m k) (r .1) in omega arith)))
+          (r .0, takes-other touch (takers touch p ps) s (r .1) (λ q m k. let d : g ≡ h = at-once (of q m k) (r .1) in omega arith)))
           (λ t.
-            let j : s .next ≤ h = nltb→le h (s .next) t in
-            let n : (x : List Cell) × Nth x (takers touch p ps) (h - s .next) = nth-below (takers touch p ps) (h - s .next) (omega (arith, takes-next touch (takers touch p ps) s)) in
-            let c : (a : Cell) × Mem a (n .0) = pieces-some touch (length group) group (part-of (n .0) (nth-mem (n .1))) in
-            let d : s .next + (h - s .next) ≡ h = omega arith in
-            (c .0, subst (λ x. At same (run (takeNext touch) s (takers touch p ps) .ids) (c .0) x) d
-              (nth-takes touch s (n .1) (takers-apart touch p ps (subst (Pairs Apart) e (pieces-apart touch (length group) group))) (g, of (n .0) (nth-mem (n .1)) (c .1)) (c .1))))
+          let j : s .next ≤ h = nltb→le h (s .next) t in
+          let n : (x : List Cell) × Nth x (takers touch p ps) (h - s .next) = nth-below (takers touch p ps) (h - s .next) (omega (arith, takes-next touch (takers touch p ps) s)) in
+          let c : (a : Cell) × Mem a (n .0) = pieces-some touch (length group) group (part-of (n .0) (nth-mem (n .1))) in
+          let d : s .next + (h - s .next) ≡ h = omega arith in (
+            c .0,
+            subst (λ x. At same (run (takeNext touch) s (takers touch p ps) .ids) (c .0) x) d
+                (nth-takes touch s (n .1) (takers-apart touch p ps (subst (Pairs Apart) e (pieces-apart touch (length group) group))) (g, of (n .0) (nth-mem (n .1)) (c .1)) (c .1)),
+          ))
           (decided (ltb h (s .next)))
         where
           part-of : (q : List Cell) → Mem q (takers touch p ps) → Mem q (parts touch group)
           part-of q m = subst (λ l. Mem q l) (sym e) (takers-out touch p ps m)
+
           of : (q : List Cell) → Mem q (takers touch p ps) → {a : Cell} → Mem a q → At same (s .ids) a g
           of q m k = members-out (s .ids) g fair (pieces-sub touch (length group) group (part-of q m) k)
 
@@ -77,10 +81,10 @@ module _ (touch : Cell → Cell → Bool) (flip : (a b : Cell) → T (touch a b)
       let fine : Fine touch gs left = rule2-fine touch flip emptied s ok in
       held-few (s .next) (run (split touch) left gs)
       (splits-held (s .next) gs left fine
-        (λ g m. let r = value-out (only (λ c. any (λ d. touch d c) emptied) (left .ids)) (ascending-out numbers _ m) in
-          let k = keep-out (λ (q : Cell × ℕ). any (λ d. touch d (q .0)) emptied) (left .ids) (r .1) in
-          subst (λ h. h < s .next) (sym (r .2)) (fine .under (fine .fair (r .0) (k .0))))
-        (λ h up down. absurd (omega arith)))
+      (λ g m. let r = value-out (only (λ c. any (λ d. touch d c) emptied) (left .ids)) (ascending-out numbers _ m) in
+      let k = keep-out (λ (q : Cell × ℕ). any (λ d. touch d (q .0)) emptied) (left .ids) (r .1) in
+      subst (λ h. h < s .next) (sym (r .2)) (fine .under (fine .fair (r .0) (k .0))))
+      (λ h up down. absurd (omega arith)))
 
 -- Rule 1 takes at most one id.
 pub rule1-few : (touch : Cell → Cell → Bool) (s : Groups) (c : Cell) → rule1 touch s c .next ≤ suc (s .next)

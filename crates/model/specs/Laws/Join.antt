@@ -66,15 +66,16 @@ module _ (touch : Cell → Cell → Bool) where
           fair = fair-put cells (s .ids) c (s .next) (ok .fair) free;
           under = λ {a} {g} p. ⊎-elim (λ e. let k = e .1 in omega arith) (λ q. let k = ok .under q in omega arith) (at-put-cases cells (s .ids) c (s .next) p);
           edge = λ {a} {b} {g} {h} p q t.
-            ⊎-elim
-            (λ e. ⊎-elim (λ f. e .1 ∙ sym (f .1)) (λ q′. absurd (none′ b h q′ (subst (λ x. T (touch x b)) (e .0) t))) (at-put-cases cells (s .ids) c (s .next) q))
-            (λ p′. ⊎-elim (λ f. absurd (none′ a g p′ (flip a c (subst (λ x. T (touch a x)) (f .0) t)))) (λ q′. ok .edge p′ q′ t) (at-put-cases cells (s .ids) c (s .next) q))
-            (at-put-cases cells (s .ids) c (s .next) p);
+              ⊎-elim
+              (λ e. ⊎-elim (λ f. e .1 ∙ sym (f .1)) (λ q′. absurd (none′ b h q′ (subst (λ x. T (touch x b)) (e .0) t))) (at-put-cases cells (s .ids) c (s .next) q))
+              (λ p′. ⊎-elim (λ f. absurd (none′ a g p′ (flip a c (subst (λ x. T (touch a x)) (f .0) t)))) (λ q′. ok .edge p′ q′ t) (at-put-cases cells (s .ids) c (s .next) q))
+              (at-put-cases cells (s .ids) c (s .next) p);
           joined = λ {a} {b} {g} p q n.
-            ⊎-elim
-            (λ e. ⊎-elim (λ f. stop (g, p) (e .0 ∙ sym (f .0))) (λ q′. let u = ok .under q′ in let k = e .1 in absurd (omega arith)) (at-put-cases cells (s .ids) c (s .next) q))
-            (λ p′. ⊎-elim (λ f. let u = ok .under p′ in let k = f .1 in absurd (omega arith)) (λ q′. wider touch (λ x d. (d .0, kept (s .next) (d .1))) (ok .joined p′ q′ n)) (at-put-cases cells (s .ids) c (s .next) q))
-            (at-put-cases cells (s .ids) c (s .next) p) }
+              ⊎-elim
+              (λ e. ⊎-elim (λ f. stop (g, p) (e .0 ∙ sym (f .0))) (λ q′. let u = ok .under q′ in let k = e .1 in absurd (omega arith)) (at-put-cases cells (s .ids) c (s .next) q))
+              (λ p′. ⊎-elim (λ f. let u = ok .under p′ in let k = f .1 in absurd (omega arith)) (λ q′. wider touch (λ x d. (d .0, kept (s .next) (d .1))) (ok .joined p′ q′ n)) (at-put-cases cells (s .ids) c (s .next) q))
+              (at-put-cases cells (s .ids) c (s .next) p);
+        }
 
     -- Some have one: g ∷ gs are the groups found.
     module _ (g : ℕ) (gs : List ℕ) (is : foundAt touch (s .ids) c ≡ g ∷ gs) where
@@ -110,9 +111,9 @@ module _ (touch : Cell → Cell → Bool) where
       to-new {a} {h} p m =
           ⊎-elim (λ e. stop (to h, now p) (e .0))
           (λ p′.
-            let r : (x : Cell) × At same (s .ids) x h × T (touch c x) = found-out (s .ids) c (ok .fair) (subst (λ l. Mem h l) (sym is) m) in
-            join touch (wider touch (λ x d. still d) (ok .joined p′ (r .1) (λ k. mem-nil k)))
-            (step (still (h, r .1)) (flip c (r .0) (r .2)) (stop (to g, now (at-put-self cells (s .ids) c g)) refl)))
+          let r : (x : Cell) × At same (s .ids) x h × T (touch c x) = found-out (s .ids) c (ok .fair) (subst (λ l. Mem h l) (sym is) m) in
+          join touch (wider touch (λ x d. still d) (ok .joined p′ (r .1) (λ k. mem-nil k)))
+          (step (still (h, r .1)) (flip c (r .0) (r .2)) (stop (to g, now (at-put-self cells (s .ids) c g)) refl)))
           (at-put-cases cells (s .ids) c g p)
 
       -- Two that touch are in groups that become one.
@@ -120,11 +121,11 @@ module _ (touch : Cell → Cell → Bool) where
       near {a} {b} {h} {k} p q t =
           ⊎-elim
           (λ e. ⊎-elim (λ f. ap to (e .1 ∙ sym (f .1)))
-            (λ q′. in′ (head (e .1)) ∙ sym (in′ (subst (λ l. Mem k l) is (found-in (s .ids) c q′ (subst (λ x. T (touch x b)) (e .0) t)))))
-            (at-put-cases cells (s .ids) c g q))
+          (λ q′. in′ (head (e .1)) ∙ sym (in′ (subst (λ l. Mem k l) is (found-in (s .ids) c q′ (subst (λ x. T (touch x b)) (e .0) t)))))
+          (at-put-cases cells (s .ids) c g q))
           (λ p′. ⊎-elim (λ f. in′ (subst (λ l. Mem h l) is (found-in (s .ids) c p′ (flip a c (subst (λ x. T (touch a x)) (f .0) t)))) ∙ sym (in′ (head (f .1))))
-            (λ q′. ap to (ok .edge p′ q′ t))
-            (at-put-cases cells (s .ids) c g q))
+          (λ q′. ap to (ok .edge p′ q′ t))
+          (at-put-cases cells (s .ids) c g q))
           (at-put-cases cells (s .ids) c g p)
 
       old : {a : Cell} {h : ℕ} → At same joined′ a h → (Mem h (g ∷ gs) → ⊥) → At same (s .ids) a h
@@ -134,9 +135,9 @@ module _ (touch : Cell → Cell → Bool) where
       linked {a} {b} {h} {k} p q e =
           ⊎-elim
           (λ u. ⊎-elim (λ v. join touch (to-new p u) (back touch flip (to-new q v)))
-            (λ v. absurd (v (subst (λ x. Mem x (g ∷ gs)) (sym (in′ u) ∙ e ∙ out′ v) big-in))) (mem-or numbers k (g ∷ gs)))
+          (λ v. absurd (v (subst (λ x. Mem x (g ∷ gs)) (sym (in′ u) ∙ e ∙ out′ v) big-in))) (mem-or numbers k (g ∷ gs)))
           (λ u. ⊎-elim (λ v. absurd (u (subst (λ x. Mem x (g ∷ gs)) (sym (in′ v) ∙ sym e ∙ out′ u) big-in)))
-            (λ v. wider touch (λ x d. still d) (ok .joined (old p u) (subst (λ x. At same (s .ids) b x) (sym (out′ v) ∙ sym e ∙ out′ u) (old q v)) (λ m. mem-nil m))) (mem-or numbers k (g ∷ gs)))
+          (λ v. wider touch (λ x d. still d) (ok .joined (old p u) (subst (λ x. At same (s .ids) b x) (sym (out′ v) ∙ sym e ∙ out′ u) (old q v)) (λ m. mem-nil m))) (mem-or numbers k (g ∷ gs)))
           (mem-or numbers h (g ∷ gs))
 
       low : {h : ℕ} → Mem h (g ∷ gs) → h < s .next
@@ -152,7 +153,8 @@ module _ (touch : Cell → Cell → Bool) where
             fair = fair-change cells (λ a h. to h) joined′ (fair-put cells (s .ids) c g (ok .fair) free);
             under = λ p. let r = merge-was big (g ∷ gs) joined′ p in subst (λ x. x < s .next) (sym (r .2)) (below-next (r .1));
             edge = λ p q t. let r = merge-was big (g ∷ gs) joined′ p in let r′ = merge-was big (g ∷ gs) joined′ q in r .2 ∙ near (r .1) (r′ .1) t ∙ sym (r′ .2);
-            joined = λ p q n. let r = merge-was big (g ∷ gs) joined′ p in let r′ = merge-was big (g ∷ gs) joined′ q in linked (r .1) (r′ .1) (sym (r .2) ∙ r′ .2) }
+            joined = λ p q n. let r = merge-was big (g ∷ gs) joined′ p in let r′ = merge-was big (g ∷ gs) joined′ q in linked (r .1) (r′ .1) (sym (r .2) ∙ r′ .2);
+          }
 
     -- Rule 1 for a cell that has no id keeps the invariant.
     pub rule1-fine : Fine touch [] (rule1 touch s c)

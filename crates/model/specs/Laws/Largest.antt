@@ -50,7 +50,7 @@ largest-earliest ids g (x ∷ xs) w is {h} m = go (ltb (size ids g) (size ids x)
         (λ k. rec x i h k) (r .1)
     go false e i rec r =
         let before : (k : ℕ) → Mem k (g ∷ whilst (λ k. not (eqb w k)) xs) → size ids k < size ids w =
-          λ k n. rec g i k (subst (λ l. Mem k l) (sym (cond-yes (not (eqb w g)) (g ∷ whilst (λ k. not (eqb w k)) xs) [] (r .0))) n) in
+        λ k n. rec g i k (subst (λ l. Mem k l) (sym (cond-yes (not (eqb w g)) (g ∷ whilst (λ k. not (eqb w k)) xs) [] (r .0))) n) in
         ⊎-elim (λ d. before h (head d))
         (λ k. ⊎-elim (λ d. let j : size ids h ≡ size ids x = ap (size ids) d in omega (arith, nltb→le (size ids g) (size ids x) (T-false e), before g (head refl))) (λ n. before h (tail n))
-          (whilst-cases (λ k. not (eqb w k)) x xs k .1)) (r .1)
+        (whilst-cases (λ k. not (eqb w k)) x xs k .1)) (r .1)

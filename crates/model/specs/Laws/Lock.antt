@@ -28,11 +28,14 @@ has-on on l a o = same-test (has same l a) (has same (keep on l) a) (λ t. has-o
 abbrev pub bump : (s t : Groups) (ids : Ids) (n : ℕ) → Sim s t → ids ≡ s .ids → s .next ≤ n → Sim (record { ids = ids; next = n }) t
 bump s t ids n sim e h =
     record {
-      f = sim .f; L = sim .L;
+      f = sim .f;
+      L = sim .L;
       same = sim .same ∙ ap (λ i. ren (sim .f) i) (sym e);
       uses = λ q m. sim .uses q (subst (λ i. Mem q i) e m);
       low = λ g l. let u = sim .low g l in omega arith;
-      low′ = sim .low′; mono = sim .mono }
+      low′ = sim .low′;
+      mono = sim .mono;
+    }
 
 module _ (touch : Cell → Cell → Bool) where
   -- An affected group has a cell that an emptied cell touches.
@@ -60,7 +63,7 @@ module _ (touch : Cell → Cell → Bool) (on : Cell → Bool) where
       ids′ =
           keep-swap (λ (q : Cell × ℕ). on (q .0)) (λ (q : Cell × ℕ). not (has same gone (q .0))) (s .ids)
           ∙ keep-ext (λ (q : Cell × ℕ). not (has same gone (q .0))) (λ (q : Cell × ℕ). not (has same (keep on gone) (q .0))) (only on (s .ids))
-            (λ q m. ap not (has-on on gone (q .0) (keep-out (λ (x : Cell × ℕ). on (x .0)) (s .ids) m .1)))
+          (λ q m. ap not (has-on on gone (q .0) (keep-out (λ (x : Cell × ℕ). on (x .0)) (s .ids) m .1)))
 
   -- A piece takes the next id on the set.
   take-view : (s : Groups) (p : List Cell) → view on (takeNext touch s p) ≡ takeNext touch (view on s) p
@@ -97,11 +100,13 @@ module _ (touch : Cell → Cell → Bool) (on : Cell → Bool) where
     where
       group : List Cell
       group = members (s .ids) g
+
       off : {a : Cell} → Mem a group → T (not (on a))
       off {a} m =
           let r : (q : Cell × ℕ) × Mem q (keep (λ (q : Cell × ℕ). eqb g (q .1)) (s .ids)) × (a ≡ q .0) = key-out (keep (λ (q : Cell × ℕ). eqb g (q .1)) (s .ids)) m in
           let k : Mem (r .0) (s .ids) × T (eqb g (r .0 .1)) = keep-out (λ (q : Cell × ℕ). eqb g (q .1)) (s .ids) (r .1) in
           subst (λ x. T (not (on x))) (sym (r .2)) (n (r .0) (k .0) (k .1))
+
       go : (l : List (List Cell)) → parts touch group ≡ l → only on (splitInto touch s l .ids) ≡ only on (s .ids)
       go [] e = refl
       go (p ∷ ps) e =
@@ -141,10 +146,11 @@ module _ (touch : Cell → Cell → Bool) (on : Cell → Bool) where
 
     -- The groups still listed have their cells on one side after a split of another.
     sides-next : (s : Groups) (g : ℕ) (l : List ℕ) → Sides s (g ∷ l) → Sides (split touch s g) l
-    sides-next s g l h =
-        ( (λ k m q j t. h .0 k (tail m) q (old k m q j t) t)
-        , (λ k m q j t. h .1 k (tail m) q (old k m q j t) t)
-        , (λ k m. let u = h .2 k (tail m) in omega (arith, split-onward touch s g .grows)))
+    sides-next s g l h = (
+      (λ k m q j t. h .0 k (tail m) q (old k m q j t) t),
+      (λ k m q j t. h .1 k (tail m) q (old k m q j t) t),
+      (λ k m. let u = h .2 k (tail m) in omega (arith, split-onward touch s g .grows)),
+    )
       where
         old : (k : ℕ) → Mem k l → (q : Cell × ℕ) → Mem q (split touch s g .ids) → T (eqb k (q .1)) → Mem q (s .ids)
         old k m q j t = let e = eqb→eq k (q .1) t in let u = h .2 k (tail m) in split-old s g q j (omega arith)
@@ -157,7 +163,7 @@ module _ (touch : Cell → Cell → Bool) (on : Cell → Bool) where
         go : ((s′ t′ : Groups) (sim′ : Sim (view on s′) t′) → Sides s′ l → ((k : ℕ) → Mem k l → T (lab k) → sim′ .L k) → Sim (view on (run (split touch) s′ l)) (run (split touch) t′ (each (sim′ .f) (keep lab l)))) → (b : Bool) → lab g ≡ b → Sim (view on (run (split touch) (split touch s g) l)) (run (split touch) t (each (sim .f) (cond b (g ∷ keep lab l) (keep lab l))))
         go rec true e =
             let st : Step (view on s) t (view on (split touch s g)) (split touch t (sim .f g)) sim =
-              subst (λ v. Step (view on s) t v (split touch t (sim .f g)) sim) (sym (split-on s g (λ q m k. h .0 g (head refl) q m k (T-true e)))) (split-sim touch g (view on s) t sim (ls g (head refl) (T-true e))) in
+            subst (λ v. Step (view on s) t v (split touch t (sim .f g)) sim) (sym (split-on s g (λ q m k. h .0 g (head refl) q m k (T-true e)))) (split-sim touch g (view on s) t sim (ls g (head refl) (T-true e))) in
             subst (λ k. Sim (view on (run (split touch) (split touch s g) l)) (run (split touch) (split touch t (sim .f g)) k))
             (each-ext (st .then .f) (sim .f) (keep lab l) (λ k m. let r = keep-out lab l m in st .agree k (ls k (tail (r .0)) (r .1))))
             (rec (split touch s g) (split touch t (sim .f g)) (st .then) (sides-next s g l h) (λ k m u. st .kept k (ls k (tail m) u)))
@@ -189,20 +195,20 @@ module _ (touch : Cell → Cell → Bool) (on : Cell → Bool) where
         asc-equal numbers _ _
         (keep-asc lab (affected touch gone (s .ids)) (aff-asc touch gone (s .ids))) (aff-asc touch (keep on gone) (only on (s .ids)))
         (λ g m.
-          let r : Mem g (affected touch gone (s .ids)) × T (lab g) = keep-out lab (affected touch gone (s .ids)) m in
-          let a : (q : Cell × ℕ) × Mem q (s .ids) × (g ≡ q .1) × T (any (λ d. touch d (q .0)) gone) = aff-out touch gone (s .ids) g (r .0) in
-          let b : (q : Cell × ℕ) × Mem q (s .ids) × T (on (q .0)) × (g ≡ q .1) = lab-out g (r .1) in
-          let o : T (on (a .0 .0)) = one-side (b .0) (a .0) (b .1) (a .1) (sym (b .3) ∙ a .2) (b .2) in
-          let d : (x : Cell) × Mem x gone × T (touch x (a .0 .0)) = any-out (λ x. touch x (a .0 .0)) gone (a .3) in
-          subst (λ k. Mem k (affected touch (keep on gone) (only on (s .ids)))) (sym (a .2))
-          (aff-in touch (keep on gone) (only on (s .ids)) (a .0) (keep-in (λ (x : Cell × ℕ). on (x .0)) (a .1) o)
-            (any-in (λ x. touch x (a .0 .0)) (keep-in on (d .1) (stays (a .0 .0) (d .0) (flip (d .0) (a .0 .0) (d .2)) o)) (d .2))))
+        let r : Mem g (affected touch gone (s .ids)) × T (lab g) = keep-out lab (affected touch gone (s .ids)) m in
+        let a : (q : Cell × ℕ) × Mem q (s .ids) × (g ≡ q .1) × T (any (λ d. touch d (q .0)) gone) = aff-out touch gone (s .ids) g (r .0) in
+        let b : (q : Cell × ℕ) × Mem q (s .ids) × T (on (q .0)) × (g ≡ q .1) = lab-out g (r .1) in
+        let o : T (on (a .0 .0)) = one-side (b .0) (a .0) (b .1) (a .1) (sym (b .3) ∙ a .2) (b .2) in
+        let d : (x : Cell) × Mem x gone × T (touch x (a .0 .0)) = any-out (λ x. touch x (a .0 .0)) gone (a .3) in
+        subst (λ k. Mem k (affected touch (keep on gone) (only on (s .ids)))) (sym (a .2))
+        (aff-in touch (keep on gone) (only on (s .ids)) (a .0) (keep-in (λ (x : Cell × ℕ). on (x .0)) (a .1) o)
+        (any-in (λ x. touch x (a .0 .0)) (keep-in on (d .1) (stays (a .0 .0) (d .0) (flip (d .0) (a .0 .0) (d .2)) o)) (d .2))))
         (λ g m.
-          let a : (q : Cell × ℕ) × Mem q (only on (s .ids)) × (g ≡ q .1) × T (any (λ d. touch d (q .0)) (keep on gone)) = aff-out touch (keep on gone) (only on (s .ids)) g m in
-          let k : Mem (a .0) (s .ids) × T (on (a .0 .0)) = keep-out (λ (x : Cell × ℕ). on (x .0)) (s .ids) (a .1) in
-          let d : (x : Cell) × Mem x (keep on gone) × T (touch x (a .0 .0)) = any-out (λ x. touch x (a .0 .0)) (keep on gone) (a .3) in
-          subst (λ j. Mem j (keep lab (affected touch gone (s .ids)))) (sym (a .2))
-          (keep-in lab (aff-in touch gone (s .ids) (a .0) (k .0) (any-in (λ x. touch x (a .0 .0)) (keep-out on gone (d .1) .0) (d .2))) (lab-in (a .0) (k .0) (k .1))))
+        let a : (q : Cell × ℕ) × Mem q (only on (s .ids)) × (g ≡ q .1) × T (any (λ d. touch d (q .0)) (keep on gone)) = aff-out touch (keep on gone) (only on (s .ids)) g m in
+        let k : Mem (a .0) (s .ids) × T (on (a .0 .0)) = keep-out (λ (x : Cell × ℕ). on (x .0)) (s .ids) (a .1) in
+        let d : (x : Cell) × Mem x (keep on gone) × T (touch x (a .0 .0)) = any-out (λ x. touch x (a .0 .0)) (keep on gone) (a .3) in
+        subst (λ j. Mem j (keep lab (affected touch gone (s .ids)))) (sym (a .2))
+        (keep-in lab (aff-in touch gone (s .ids) (a .0) (k .0) (any-in (λ x. touch x (a .0 .0)) (keep-out on gone (d .1) .0) (d .2))) (lab-in (a .0) (k .0) (k .1))))
 
     -- Rule 3 on the set, against the set by itself.
     pub rule3-lock : (t : Groups) (sim : Sim (view on s) t) → ((q : Cell × ℕ) → Mem q (s .ids) → q .1 < s .next) → Sim (view on (rule3 touch gone s)) (rule3 touch (keep on gone) t)
@@ -212,7 +218,8 @@ module _ (touch : Cell → Cell → Bool) (on : Cell → Bool) where
         (splits-lock lab (affected touch gone (s .ids)) s t sim sides (λ g m u. let b = lab-out g u in subst (sim .L) (sym (b .3)) (sim .uses (b .0) (keep-in (λ (x : Cell × ℕ). on (x .0)) (b .1) (b .2)))))
       where
         sides : Sides lab s (affected touch gone (s .ids))
-        sides =
-            ( (λ g m q k e u. let b = lab-out g u in one-side (b .0) q (b .1) k (sym (b .3) ∙ eqb→eq g (q .1) e) (b .2))
-            , (λ g m q k e u. not-T (on (q .0)) (λ o. T-not (lab g) u (subst (λ x. T (lab x)) (sym (eqb→eq g (q .1) e)) (lab-in q k o))))
-            , (λ g m. let a = aff-out touch gone (s .ids) g m in let u = under (a .0) (a .1) in let e = a .2 in omega arith))
+        sides = (
+          (λ g m q k e u. let b = lab-out g u in one-side (b .0) q (b .1) k (sym (b .3) ∙ eqb→eq g (q .1) e) (b .2)),
+          (λ g m q k e u. not-T (on (q .0)) (λ o. T-not (lab g) u (subst (λ x. T (lab x)) (sym (eqb→eq g (q .1) e)) (lab-in q k o)))),
+          (λ g m. let a = aff-out touch gone (s .ids) g m in let u = under (a .0) (a .1) in let e = a .2 in omega arith),
+        )

@@ -50,9 +50,9 @@ module _ {K : Type 0} {eq lt : K → K → Bool} (laws : Ordered eq lt) where
     minus-without s h =
         asc-equal laws _ _ (keep-asc _ l s) (add-asc laws x _ (keep-asc _ l s))
         (λ a k. let r : Mem a l × (Mem a (without eq x m) → ⊥) = minus-out l (without eq x m) k in
-          ⊎-elim (λ e. add-self laws x (minus eq l m) e) (λ n. add-in laws x (minus eq l m) (minus-in m (r .0) (λ j. r .1 (without-in laws x j n)))) (is-or laws a x))
+        ⊎-elim (λ e. add-self laws x (minus eq l m) e) (λ n. add-in laws x (minus eq l m) (minus-in m (r .0) (λ j. r .1 (without-in laws x j n)))) (is-or laws a x))
         (λ a k. ⊎-elim (λ e. minus-in (without eq x m) (mem-cast e h) (λ j. without-out laws x m j .1 e))
-          (λ j. let r : Mem a l × (Mem a m → ⊥) = minus-out l m j in minus-in (without eq x m) (r .0) (λ i. r .1 (without-out laws x m i .0))) (add-out laws x (minus eq l m) k))
+        (λ j. let r : Mem a l × (Mem a m → ⊥) = minus-out l m j in minus-in (without eq x m) (r .0) (λ i. r .1 (without-out laws x m i .0))) (add-out laws x (minus eq l m) k))
 
     -- An added member that is taken again.
     pub add-minus-old : Mem x m → minus eq (add lt x l) m ≡ minus eq l m

@@ -32,7 +32,8 @@ module _ (touch : Cell → Cell → Bool) (was : List Cell) (was-asc : Asc below
     open-net s n =
         record {
           opened = go (has same (o .newlyEmptied) c) refl ∙ ap (λ l. minus same l was) (sym (occupied-open touch c o));
-          emptied = ap (without same c) (net .emptied) ∙ sym (minus-add cells c was (occupied o) was-asc) ∙ ap (minus same was) (sym (occupied-open touch c o)) }
+          emptied = ap (without same c) (net .emptied) ∙ sym (minus-add cells c was (occupied o) was-asc) ∙ ap (minus same was) (sym (occupied-open touch c o));
+        }
       where
         go : (b : Bool) → has same (o .newlyEmptied) c ≡ b → cond b (o .newlyOccupied) (add below c (o .newlyOccupied)) ≡ minus same (add below c (occupied o)) was
         go true e =
@@ -47,7 +48,8 @@ module _ (touch : Cell → Cell → Bool) (was : List Cell) (was-asc : Asc below
     close-net h =
         record {
           opened = ap (without same c) (net .opened) ∙ sym (without-minus cells c (occupied o) was) ∙ ap (λ l. minus same l was) (sym (occupied-close touch c o));
-          emptied = go (has same (o .newlyOccupied) c) refl ∙ ap (minus same was) (sym (occupied-close touch c o)) }
+          emptied = go (has same (o .newlyOccupied) c) refl ∙ ap (minus same was) (sym (occupied-close touch c o));
+        }
       where
         go : (b : Bool) → has same (o .newlyOccupied) c ≡ b → cond b (o .newlyEmptied) (add below c (o .newlyEmptied)) ≡ minus same was (without same c (occupied o))
         go true e =
@@ -55,7 +57,7 @@ module _ (touch : Cell → Cell → Bool) (was : List Cell) (was-asc : Asc below
             net .emptied ∙ sym (minus-without-other cells c was (occupied o) (minus-out cells (occupied o) was k .1))
         go false e =
             ap (add below c) (net .emptied) ∙ sym (minus-without cells c was (occupied o) was-asc
-              (⊎-elim (λ k. k) (λ n. absurd (of-hasnt cells (o .newlyOccupied) (T-false e) (subst (λ l. Mem c l) (sym (net .opened)) (minus-in cells was h n)))) (mem-or cells c was)))
+            (⊎-elim (λ k. k) (λ n. absurd (of-hasnt cells (o .newlyOccupied) (T-false e) (subst (λ l. Mem c l) (sym (net .opened)) (minus-in cells was h n)))) (mem-or cells c was)))
 
   -- The difference stays with each passage that fits.
   pub pass-net : (o : Occupancy) (p : Passage) → Sound touch o → Net was o → Fits (o .entities) p → Net was (pass touch o p)
@@ -95,6 +97,7 @@ module _ (touch : Cell → Cell → Bool) where
       joins : (b : Bool) → length (cond b (o .newlyEmptied) (add below c (o .newlyEmptied))) ≤ 1 + length (o .newlyEmptied)
       joins true = omega arith
       joins false = omega (arith, add-length cells c (o .newlyEmptied))
+
       go : (b : Bool) → Gains o (withEntities (dropKey eqb e (o .entities)) (cond b o (closeCell touch c o))) 0 1
       go true = record { opened = omega arith; emptied = omega arith }
       go false = record { opened = omega (arith, keep-shorter (λ d. not (same c d)) (o .newlyOccupied)); emptied = joins (has same (o .newlyOccupied) c) }
@@ -106,6 +109,7 @@ module _ (touch : Cell → Cell → Bool) where
       joins : (b : Bool) → length (cond b (o .newlyOccupied) (add below c (o .newlyOccupied))) ≤ 1 + length (o .newlyOccupied)
       joins true = omega arith
       joins false = omega (arith, add-length cells c (o .newlyOccupied))
+
       go : (b : Bool) → Gains o (withEntities (put ltb e c (o .entities)) (cond b o (openCell touch c o))) 1 0
       go true = record { opened = omega arith; emptied = omega arith }
       go false = record { opened = joins (has same (o .newlyEmptied) c); emptied = omega (arith, keep-shorter (λ d. not (same c d)) (o .newlyEmptied)) }
@@ -174,7 +178,7 @@ module _ (R : Cell → Bool) where
   events-in b f ev m =
       ⊎-elim (λ k. let r : (e : ℕ) × Mem e (b .removals) × (ev ≡ remove e) = each-out remove (b .removals) k in subst (MovesIn R) (sym (r .2)) tt)
       (λ k. let r : (q : ℕ × Cell) × Mem q (b .moves) × (ev ≡ moveTo (q .0) (q .1)) = each-out (λ (q : ℕ × Cell). moveTo (q .0) (q .1)) (b .moves) k in
-        subst (MovesIn R) (sym (r .2)) (f (r .0 .1) (value-in (r .1))))
+      subst (MovesIn R) (sym (r .2)) (f (r .0 .1) (value-in (r .1))))
       (append-cases (each remove (b .removals)) m)
 
 module _ (touch : Cell → Cell → Bool) (R : Cell → Bool) where
@@ -188,18 +192,21 @@ module _ (touch : Cell → Cell → Bool) (R : Cell → Bool) where
           record {
             stood = λ m. x .stood (value-drop-out numbers (o .entities) e m);
             opened = λ m. x .opened (without-out cells c (o .newlyOccupied) m .0);
-            emptied = λ {c = d} m. joined-in R c (o .newlyEmptied) (has same (o .newlyOccupied) c) (x .stood (value-in (at-mem numbers (o .entities) h))) (λ a k. x .emptied k) d m }
+            emptied = λ {c = d} m. joined-in R c (o .newlyEmptied) (has same (o .newlyOccupied) c) (x .stood (value-in (at-mem numbers (o .entities) h))) (λ a k. x .emptied k) d m;
+          }
   pass-inside o (enters e c) x h q = go (standsIn (o .entities) c)
     where
       stood′ : (a : Cell) → Mem a (values (put ltb e c (o .entities))) → T (R a)
       stood′ a m = ⊎-elim (λ f. subst (λ y. T (R y)) (sym f) q) (λ k. x .stood k) (value-put-out numbers (o .entities) e c m)
+
       go : (b : Bool) → Inside R (withEntities (put ltb e c (o .entities)) (cond b o (openCell touch c o)))
       go true = record { stood = λ {c = a} m. stood′ a m; opened = x .opened; emptied = x .emptied }
       go false =
           record {
             stood = λ {c = a} m. stood′ a m;
             opened = λ {c = d} m. joined-in R c (o .newlyOccupied) (has same (o .newlyEmptied) c) q (λ a k. x .opened k) d m;
-            emptied = λ m. x .emptied (without-out cells c (o .newlyEmptied) m .0) }
+            emptied = λ m. x .emptied (without-out cells c (o .newlyEmptied) m .0);
+          }
 
   -- The passages of events that move to no cell outside R enter none.
   pub trace-in : (o : Occupancy) (es : List Event) → ((ev : Event) → Mem ev es → MovesIn R ev) → (p : Passage) → Mem p (trace touch o es) → EntersIn R p

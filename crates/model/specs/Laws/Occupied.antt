@@ -80,9 +80,9 @@ module _ (t : List (ℕ × Cell)) (e : ℕ) (c : Cell) where
     cells-drop-last h =
         asc-equal cells _ _ (ascending-asc cells (values (dropKey eqb e t))) (keep-asc _ _ (ascending-asc cells (values t)))
         (λ a m. let k : Mem a (values (dropKey eqb e t)) = ascending-out cells (values (dropKey eqb e t)) m in
-          without-in cells c (ascending-in cells (values t) (value-drop-out numbers t e k)) (λ f. of-nobody (dropKey eqb e t) h (mem-cast (sym f) k)))
+        without-in cells c (ascending-in cells (values t) (value-drop-out numbers t e k)) (λ f. of-nobody (dropKey eqb e t) h (mem-cast (sym f) k)))
         (λ a m. let r : Mem a (ascending below (values t)) × (a ≡ c → ⊥) = without-out cells c (ascending below (values t)) m in
-          ascending-in cells (values (dropKey eqb e t)) (value-drop-in numbers t e s p (ascending-out cells (values t) (r .0)) (r .1)))
+        ascending-in cells (values (dropKey eqb e t)) (value-drop-in numbers t e s p (ascending-out cells (values t) (r .0)) (r .1)))
 
 module _ (touch : Cell → Cell → Bool) where
   -- A cell that opens is added to the occupied cells.
@@ -146,7 +146,8 @@ module _ (touch : Cell → Cell → Bool) where
           record {
             once = once-keep (touch c) among (asc-once cells s);
             only = λ {d} m. (add-in cells c among (keep-out (touch c) among m .0), keep-out (touch c) among m .1);
-            every = λ {d} m t. ⊎-elim (λ e. absurd (apart c (subst (λ x. T (touch c x)) e t))) (λ k. keep-in (touch c) k t) (add-out cells c among m) }
+            every = λ {d} m t. ⊎-elim (λ e. absurd (apart c (subst (λ x. T (touch c x)) e t))) (λ k. keep-in (touch c) k t) (add-out cells c among m);
+          }
 
       -- Lists stay exact when a cell that was not occupied opens.
       exact-open : (d : Cell) (l : List Cell) → Exact touch among d l → Exact touch (add below c among) d (cond (touch c d) (l ++ (c ∷ [])) l)
@@ -157,13 +158,15 @@ module _ (touch : Cell → Cell → Bool) where
               record {
                 once = once-append l (c ∷ []) (x .once) (once-cons mem-nil once-nil) (λ a k j. new (mem-cast (sym (mem-one j)) (x .only k .0)));
                 only = λ {d = a} m. ⊎-elim (λ k. (add-in cells c among (x .only k .0), x .only k .1))
-                  (λ k. (add-self cells c among (mem-one k), subst (λ y. T (touch d y)) (sym (mem-one k)) (flip c d (T-true e)))) (append-cases l m);
-                every = λ {d = a} m t. ⊎-elim (λ f. append-right l (head f)) (λ k. append-left (c ∷ []) (x .every k t)) (add-out cells c among m) }
+                    (λ k. (add-self cells c among (mem-one k), subst (λ y. T (touch d y)) (sym (mem-one k)) (flip c d (T-true e)))) (append-cases l m);
+                every = λ {d = a} m t. ⊎-elim (λ f. append-right l (head f)) (λ k. append-left (c ∷ []) (x .every k t)) (add-out cells c among m);
+              }
           go false e =
               record {
                 once = x .once;
                 only = λ {d = a} m. (add-in cells c among (x .only m .0), x .only m .1);
-                every = λ {d = a} m t. ⊎-elim (λ f. absurd (T-not (touch c d) (T-false e) (flip d c (subst (λ y. T (touch d y)) f t)))) (λ k. x .every k t) (add-out cells c among m) }
+                every = λ {d = a} m t. ⊎-elim (λ f. absurd (T-not (touch c d) (T-false e) (flip d c (subst (λ y. T (touch d y)) f t)))) (λ k. x .every k t) (add-out cells c among m);
+              }
 
     -- Lists stay exact when a cell closes.
     exact-close : (c : Cell) (among : List Cell) (d : Cell) (l : List Cell) → Exact touch among d l → Exact touch (without same c among) d (cond (touch c d) (without same c l) l)
@@ -174,12 +177,14 @@ module _ (touch : Cell → Cell → Bool) where
             record {
               once = once-keep _ l (x .once);
               only = λ {d = a} m. let r : Mem a l × (a ≡ c → ⊥) = without-out cells c l m in (without-in cells c (x .only (r .0) .0) (r .1), x .only (r .0) .1);
-              every = λ {d = a} m t. let r : Mem a among × (a ≡ c → ⊥) = without-out cells c among m in without-in cells c (x .every (r .0) t) (r .1) }
+              every = λ {d = a} m t. let r : Mem a among × (a ≡ c → ⊥) = without-out cells c among m in without-in cells c (x .every (r .0) t) (r .1);
+            }
         go false e =
             record {
               once = x .once;
               only = λ {d = a} m. (without-in cells c (x .only m .0) (λ f. T-not (touch c d) (T-false e) (flip d c (subst (λ y. T (touch d y)) f (x .only m .1)))), x .only m .1);
-              every = λ {d = a} m t. x .every (without-out cells c among m .0) t }
+              every = λ {d = a} m t. x .every (without-out cells c among m .0) t;
+            }
 
     module _ (apart : (a : Cell) → T (touch a a) → ⊥) where
       -- Soundness stays when an entity enters.
@@ -188,21 +193,25 @@ module _ (touch : Cell → Cell → Bool) where
         where
           t : List (ℕ × Cell)
           t = put ltb e c (o .entities)
+
           grown : ascending below (values t) ≡ add below c (occupied o)
           grown = cells-put (o .entities) e c n ∙ ap (add below c) (sym (ok .cells))
+
           go : (b : Bool) → standsIn (o .entities) c ≡ b → Sound touch (withEntities t (cond b o (openCell touch c o)))
           go true f =
               record {
                 asc = put-asc numbers (o .entities) e c (ok .asc);
                 cells = sym (add-old cells (occupied-asc o ok) (occupied-in o ok (of-stands (o .entities) c (T-true f)))) ∙ sym grown;
-                exact = ok .exact }
+                exact = ok .exact;
+              }
           go false f =
               record {
                 asc = put-asc numbers (o .entities) e c (ok .asc);
                 cells = occupied-open c o ∙ sym grown;
                 exact = subst (λ k. (d : Cell) (l : List Cell) → Mem (d, l) (openCell touch c o .lists) → Exact touch k d l) (sym (occupied-open c o))
-                  (put-all cells _ c (Exact touch (add below c (occupied o))) (keep (touch c) (occupied o)) (exact-new apart c (occupied o) new (occupied-asc o ok))
-                  (change-all (Exact touch (add below c (occupied o))) (λ d l. cond (touch c d) (l ++ (c ∷ [])) l) (o .lists) (λ d l m. exact-open apart c (occupied o) new d l (ok .exact d l m)))) }
+                    (put-all cells _ c (Exact touch (add below c (occupied o))) (keep (touch c) (occupied o)) (exact-new apart c (occupied o) new (occupied-asc o ok))
+                    (change-all (Exact touch (add below c (occupied o))) (λ d l. cond (touch c d) (l ++ (c ∷ [])) l) (o .lists) (λ d l m. exact-open apart c (occupied o) new d l (ok .exact d l m))));
+              }
             where
               new : Mem c (occupied o) → ⊥
               new = not-occupied o ok (T-false f)
@@ -213,19 +222,22 @@ module _ (touch : Cell → Cell → Bool) where
         where
           t : List (ℕ × Cell)
           t = dropKey eqb e (o .entities)
+
           go : (b : Bool) → standsIn t c ≡ b → Sound touch (withEntities t (cond b o (closeCell touch c o)))
           go true f =
               record {
                 asc = drop-asc numbers e (o .entities) (ok .asc);
                 cells = ok .cells ∙ sym (cells-drop-shared (o .entities) e c p (ok .asc) (T-true f));
-                exact = ok .exact }
+                exact = ok .exact;
+              }
           go false f =
               record {
                 asc = drop-asc numbers e (o .entities) (ok .asc);
                 cells = occupied-close c o ∙ ap (without same c) (ok .cells) ∙ sym (cells-drop-last (o .entities) e c p (ok .asc) (T-false f));
                 exact = subst (λ k. (d : Cell) (l : List Cell) → Mem (d, l) (closeCell touch c o .lists) → Exact touch k d l) (sym (occupied-close c o))
-                  (change-all (Exact touch (without same c (occupied o))) (λ d l. cond (touch c d) (without same c l) l) (dropKey same c (o .lists))
-                  (λ d l m. exact-close c (occupied o) d l (ok .exact d l (keep-out (λ (q : Cell × List Cell). not (same c (q .0))) (o .lists) m .0)))) }
+                    (change-all (Exact touch (without same c (occupied o))) (λ d l. cond (touch c d) (without same c l) l) (dropKey same c (o .lists))
+                    (λ d l m. exact-close c (occupied o) d l (ok .exact d l (keep-out (λ (q : Cell × List Cell). not (same c (q .0))) (o .lists) m .0))));
+              }
 
       -- Soundness stays with each passage that fits.
       pub pass-sound : (o : Occupancy) (p : Passage) → Sound touch o → Fits (o .entities) p → Sound touch (pass touch o p)

@@ -28,7 +28,8 @@ viewed grid o =
       entities = keep (λ (p : ℕ × Cell). onGrid grid (p .1)) (o .entities);
       lists = only (onGrid grid) (o .lists);
       newlyOccupied = keep (onGrid grid) (o .newlyOccupied);
-      newlyEmptied = keep (onGrid grid) (o .newlyEmptied) }
+      newlyEmptied = keep (onGrid grid) (o .newlyEmptied);
+    }
 
 -- Two occupancies with equal parts are equal.
 occ-equal : {o p : Occupancy} → o .entities ≡ p .entities → o .lists ≡ p .lists → o .newlyOccupied ≡ p .newlyOccupied → o .newlyEmptied ≡ p .newlyEmptied → o ≡ p
@@ -47,6 +48,7 @@ stands-on grid l c o =
   where
     on : ℕ × Cell → Bool
     on p = onGrid grid (p .1)
+
     at : ℕ × Cell → Bool
     at p = same c (p .1)
 
@@ -74,7 +76,7 @@ module _ (touch : Cell → Cell → Bool) (laws : Touching touch) (grid : ℕ) w
       open-on =
           occ-equal refl
           (only-put-yes cells on (change f (o .lists)) c (keep (touch c) (occupied o)) (change-asc cells f (o .lists) occ-asc) u
-            ∙ ap₂ (λ l t. put below c l t) (sym (ap (keep (touch c)) (occupied-on grid o) ∙ keep-sub (touch c) on (occupied o) (λ d m t. stays-on laws grid c d t u))) (only-change on f (o .lists)))
+          ∙ ap₂ (λ l t. put below c l t) (sym (ap (keep (touch c)) (occupied-on grid o) ∙ keep-sub (touch c) on (occupied o) (λ d m t. stays-on laws grid c d t u))) (only-change on f (o .lists)))
           (joins-on c u (o .newlyOccupied) (o .newlyEmptied) (subst (Asc below) (sym (net .opened)) (keep-asc _ _ occ-asc)))
           (keep-swap on (λ d. not (same c d)) (o .newlyEmptied))
         where
@@ -102,7 +104,7 @@ module _ (touch : Cell → Cell → Bool) (laws : Touching touch) (grid : ℕ) w
       untouched f t =
           only-change on (λ d l. cond (touch c d) (f l) l) t
           ∙ change-same (λ d l. cond (touch c d) (f l) l) (only on t) (λ q m. ap (λ b. cond b (f (q .1)) (q .1))
-            (false-of (touch c (q .0)) (not-T (touch c (q .0)) (λ t′. T-not (on c) n (stays-on laws grid (q .0) c (laws .flip c (q .0) t′) (keep-out (λ (p : Cell × List Cell). on (p .0)) t m .1))))))
+          (false-of (touch c (q .0)) (not-T (touch c (q .0)) (λ t′. T-not (on c) n (stays-on laws grid (q .0) c (laws .flip c (q .0) t′) (keep-out (λ (p : Cell × List Cell). on (p .0)) t m .1))))))
 
       -- In the net lists of the grid it does not show.
       joins-off : (b : Bool) (l : List Cell) → keep on (cond b l (add below c l)) ≡ keep on l
@@ -132,8 +134,10 @@ module _ (touch : Cell → Cell → Bool) (laws : Touching touch) (grid : ℕ) w
       where
         drop′ : keep (λ (p : ℕ × Cell). on (p .1)) (dropKey eqb e (o .entities)) ≡ dropKey eqb e (viewed grid o .entities)
         drop′ = keep-swap (λ (p : ℕ × Cell). on (p .1)) (λ (p : ℕ × Cell). not (eqb e (p .0))) (o .entities)
+
         stands′ : standsIn (dropKey eqb e (o .entities)) c ≡ standsIn (dropKey eqb e (viewed grid o .entities)) c
         stands′ = stands-on grid (dropKey eqb e (o .entities)) c u ∙ ap (λ t. standsIn t c) drop′
+
         go : (b : Bool) → viewed grid (cond b o (closeCell touch c o)) ≡ cond b (viewed grid o) (closeCell touch c (viewed grid o))
         go true = refl
         go false = close-on c o u (occupied-asc touch o ok) was was-asc net
@@ -141,6 +145,7 @@ module _ (touch : Cell → Cell → Bool) (laws : Touching touch) (grid : ℕ) w
       where
         put′ : keep (λ (p : ℕ × Cell). on (p .1)) (put ltb e c (o .entities)) ≡ put ltb e c (viewed grid o .entities)
         put′ = rows-put-yes numbers (λ (p : ℕ × Cell). on (p .1)) (o .entities) (ok .asc) e c u
+
         go : (b : Bool) → viewed grid (cond b o (openCell touch c o)) ≡ cond b (viewed grid o) (openCell touch c (viewed grid o))
         go true = refl
         go false = open-on c o u (occupied-asc touch o ok) was was-asc net
@@ -173,7 +178,7 @@ module _ (touch : Cell → Cell → Bool) (laws : Touching touch) (grid : ℕ) w
   batch-on b o ok =
       ap (viewed grid) (trace-run touch (startBatch o) (events b))
       ∙ passes-on (occupied o) (occupied-asc touch o ok) (trace-fits touch (startBatch o) (events b)) (start-sound touch o ok)
-        (record { opened = sym (minus-self cells (occupied o)); emptied = sym (minus-self cells (occupied o)) })
+      (record { opened = sym (minus-self cells (occupied o)); emptied = sym (minus-self cells (occupied o)) })
 
   -- Batches with the same passages of the grid leave the same there.
   pub batches-agree : (b d : Batch) (o p : Occupancy) → Sound touch o → Sound touch p → viewed grid o ≡ viewed grid p →

@@ -54,7 +54,8 @@ onward-join o r =
     let h = o .grows in let j = r .grows in
     record {
       grows = omega arith;
-      given = λ m. ⊎-elim (λ k. ⊎-elim inl (λ i. let x = i .0 in let y = i .1 in inr (omega arith, omega arith)) (o .given k)) (λ k. let x = k .0 in let y = k .1 in inr (omega arith, omega arith)) (r .given m) }
+      given = λ m. ⊎-elim (λ k. ⊎-elim inl (λ i. let x = i .0 in let y = i .1 in inr (omega arith, omega arith)) (o .given k)) (λ k. let x = k .0 in let y = k .1 in inr (omega arith, omega arith)) (r .given m);
+    }
 
 -- Several ways onward, one after the other.
 pub onward-run : {A : Type 0} (f : Groups → A → Groups) → ((s : Groups) (x : A) → Onward s (f s x)) → (l : List A) (s : Groups) → Onward s (run f s l)
@@ -68,23 +69,26 @@ module _ (touch : Cell → Cell → Bool) where
     where
       was : {g : ℕ} → Mem g (foundAt touch (s .ids) c) → Mem g (values (s .ids))
       was {g} m = let r = value-out (only (touch c) (s .ids)) m in subst (λ h. Mem h (values (s .ids))) (sym (r .2)) (value-in (keep-out (λ (q : Cell × ℕ). touch c (q .0)) (s .ids) (r .1) .0))
+
       put-value : (v : ℕ) {g : ℕ} → Mem g (values (put below c v (s .ids))) → (g ≡ v) ⊎ Mem g (values (s .ids))
       put-value v {g} m =
           let r = value-out (put below c v (s .ids)) m in
           ⊎-elim (λ e. inl (r .2 ∙ ap (λ (q : Cell × ℕ). q .1) e)) (λ k. inr (subst (λ h. Mem h (values (s .ids))) (sym (r .2)) (value-in k))) (put-out cells (s .ids) c v (r .1))
+
       go : (l : List ℕ) → foundAt touch (s .ids) c ≡ l → Onward s (joinFound touch s c l)
       go [] e = record { grows = omega arith; given = λ {g} m. ⊎-elim (λ d. inr (omega arith, omega arith)) inl (put-value (s .next) m) }
       go (g ∷ gs) e =
           record {
             grows = omega arith;
             given = λ {g = h} m.
-              let w : ℕ = largestGroup (put below c g (s .ids)) g gs in
-              let r = change-value (λ a k. mergedId w (g ∷ gs) k) (put below c g (s .ids)) m in
-              let k : ℕ = r .0 .1 in
-              inl (⊎-elim
+                let w : ℕ = largestGroup (put below c g (s .ids)) g gs in
+                let r = change-value (λ a k. mergedId w (g ∷ gs) k) (put below c g (s .ids)) m in
+                let k : ℕ = r .0 .1 in
+                inl (⊎-elim
                 (λ j. subst (λ x. Mem x (values (s .ids))) (sym (r .2 ∙ merged-in w (g ∷ gs) j)) (was (subst (λ l. Mem w l) (sym e) (largest-in (put below c g (s .ids)) g gs))))
                 (λ n. subst (λ x. Mem x (values (s .ids))) (sym (r .2 ∙ merged-out w (g ∷ gs) n)) (⊎-elim (λ d. absurd (n (head d))) (λ j. j) (put-value g (value-in (r .1)))))
-                (mem-or numbers k (g ∷ gs))) }
+                (mem-or numbers k (g ∷ gs)));
+          }
 
   -- Rule 2 goes onward.
   pub rule2-onward : (emptied : List Cell) (s : Groups) → Onward s (rule2 touch emptied s)
@@ -92,8 +96,9 @@ module _ (touch : Cell → Cell → Bool) where
       record {
         grows = omega arith;
         given = λ {g} m.
-          let r = value-out (only (λ c. not (has same emptied c)) (s .ids)) m in
-          inl (subst (λ h. Mem h (values (s .ids))) (sym (r .2)) (value-in (keep-out (λ (q : Cell × ℕ). not (has same emptied (q .0))) (s .ids) (r .1) .0))) }
+            let r = value-out (only (λ c. not (has same emptied c)) (s .ids)) m in
+            inl (subst (λ h. Mem h (values (s .ids))) (sym (r .2)) (value-in (keep-out (λ (q : Cell × ℕ). not (has same emptied (q .0))) (s .ids) (r .1) .0)));
+      }
 
   -- A piece that takes the next id goes onward.
   pub take-onward : (s : Groups) (p : List Cell) → Onward s (takeNext touch s p)
@@ -101,10 +106,11 @@ module _ (touch : Cell → Cell → Bool) where
       record {
         grows = omega arith;
         given = λ {g} m.
-          let r = change-value (λ a k. cond (has same p a) (s .next) k) (s .ids) m in
-          let b : Bool = has same p (r .0 .0) in
-          ⊎-elim (λ t. let e : g ≡ s .next = r .2 ∙ cond-yes b (s .next) (r .0 .1) t in inr (omega arith, omega arith))
-          (λ t. inl (subst (λ h. Mem h (values (s .ids))) (sym (r .2 ∙ cond-no b (s .next) (r .0 .1) t)) (value-in (r .1)))) (decided b) }
+            let r = change-value (λ a k. cond (has same p a) (s .next) k) (s .ids) m in
+            let b : Bool = has same p (r .0 .0) in
+            ⊎-elim (λ t. let e : g ≡ s .next = r .2 ∙ cond-yes b (s .next) (r .0 .1) t in inr (omega arith, omega arith))
+            (λ t. inl (subst (λ h. Mem h (values (s .ids))) (sym (r .2 ∙ cond-no b (s .next) (r .0 .1) t)) (value-in (r .1)))) (decided b);
+      }
 
   -- A split goes onward.
   pub split-onward : (s : Groups) (g : ℕ) → Onward s (split touch s g)

@@ -1,13 +1,12 @@
 -- Strict total orders and equality as Bool tests, with those of numbers and of cells.
-use Prim.Native.Nat.{ℕ, _<_}
 use native.Mathlib.Omega.{arith}
-use mathlib.Core.Path.{_≡_, sym, _∙_, subst}
+use mathlib.Core.Path.{_≡_, subst}
 use mathlib.Core.Logic.{_⊎_, inl, inr, ⊎-elim}
-use mathlib.Core.Bool.{Bool, _&&_, not}
+use mathlib.Core.Bool.{Bool, not}
 use lib.Dec.{T, T-not, not-T, eqb, eqb→eq, eqb-refl, ltb, ltb→lt, lt→ltb, nltb→le}
 use Rattle.component.specs.OrderLaws.{same-eq, same-self, below-irrefl, below-trans, below-tri}
-use Rattle.model.specs.Cells.{Cell, same, below}
-use Rattle.model.specs.Laws.Tests.{and-fst, and-snd, and-both, and-not, or-cases, or-left, or-right, or-not, decided}
+use Rattle.model.specs.Cells.{same, below}
+use Rattle.model.specs.Laws.Tests.{decided}
 
 -- A test of equality and a test of a strict total order.
 pub record Ordered {K : Type 0} (eq lt : K → K → Bool) : Type 0 where
@@ -54,7 +53,8 @@ numbers =
       same-self = λ a. eqb-refl a;
       irrefl = λ a t. omega (arith, ltb→lt a a t);
       trans = λ a b c s t. lt→ltb a c (omega (arith, ltb→lt a b s, ltb→lt b c t));
-      tri = λ a b s t. omega (arith, nltb→le a b s, nltb→le b a t) }
+      tri = λ a b s t. omega (arith, nltb→le a b s, nltb→le b a t);
+    }
 
 -- The cells.
 pub cells : Ordered same below

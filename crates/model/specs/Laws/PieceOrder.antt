@@ -33,7 +33,8 @@ pub asc-least : {c : Cell} {l : List Cell} → Asc below (c ∷ l) → Least (c 
 asc-least {c} s =
     record {
       is-in = head refl;
-      no-less = λ b m. not-T (below b c) (λ t. ⊎-elim (λ e. lt-differ cells b c t e) (λ k. cells .irrefl c (cells .trans c b c (asc-head s b k) t)) (mem-cons m)) }
+      no-less = λ b m. not-T (below b c) (λ t. ⊎-elim (λ e. lt-differ cells b c t e) (λ k. cells .irrefl c (cells .trans c b c (asc-head s b k) t)) (mem-cons m));
+    }
 
 module _ (touch : Cell → Cell → Bool) where
   -- Each cell of a piece is of the list.
@@ -79,10 +80,10 @@ module _ (touch : Cell → Cell → Bool) where
   pieces-least (suc n) (c ∷ l) s =
       pairs-cons
       (λ q m a b x y.
-        let k : Mem b l = keep-out (λ d. not (has same (part touch c l) d)) l (pieces-sub n _ m (y .is-in)) .0 in
-        ⊎-elim (λ e. subst (λ z. T (below z b)) (sym e) (asc-head s b k))
-        (λ j. absurd (T-not (below c a) (x .no-less c (piece-self c l)) (asc-head s a j)))
-        (mem-cons (keep-out (has same (part touch c l)) (c ∷ l) (x .is-in) .0)))
+      let k : Mem b l = keep-out (λ d. not (has same (part touch c l) d)) l (pieces-sub n _ m (y .is-in)) .0 in
+      ⊎-elim (λ e. subst (λ z. T (below z b)) (sym e) (asc-head s b k))
+      (λ j. absurd (T-not (below c a) (x .no-less c (piece-self c l)) (asc-head s a j)))
+      (mem-cons (keep-out (has same (part touch c l)) (c ∷ l) (x .is-in) .0)))
       (pieces-least n (keep (λ d. not (has same (part touch c l) d)) l) (keep-asc (λ d. not (has same (part touch c l) d)) l (asc-tail s)))
 
   -- No piece has more cells than the largest.

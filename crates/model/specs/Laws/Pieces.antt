@@ -76,10 +76,12 @@ module _ (touch : Cell → Cell → Bool) where
         record {
           sub = λ m. keep-out (has same P) (c ∷ l) m .0;
           closed = λ m k t. keep-in (has same P) k (has-of cells (part-closed touch c l (in-part m) k t));
-          linked = λ m k. join touch (part-path touch flip c l (in-part m)) (back touch flip (part-path touch flip c l (in-part k))) }
+          linked = λ m k. join touch (part-path touch flip c l (in-part m)) (back touch flip (part-path touch flip c l (in-part k)));
+        }
       where
         P : List Cell
         P = part touch c l
+
         in-part : {a : Cell} → Mem a (keep (has same P) (c ∷ l)) → Mem a P
         in-part m = of-has cells P (keep-out (has same P) (c ∷ l) m .1)
 
@@ -89,14 +91,18 @@ module _ (touch : Cell → Cell → Bool) where
         record {
           sub = λ m. tail (lies m .0);
           closed = λ m k t. ok .closed m (stays m k t) t;
-          linked = λ m k. wider touch (λ x h. tail (keep-out (λ d. not (has same P d)) l h .0)) (ok .linked m k) }
+          linked = λ m k. wider touch (λ x h. tail (keep-out (λ d. not (has same P d)) l h .0)) (ok .linked m k);
+        }
       where
         P : List Cell
         P = part touch c l
+
         lies : {a : Cell} → Mem a p → Mem a l × T (not (has same P a))
         lies m = keep-out (λ d. not (has same P d)) l (ok .sub m)
+
         out : {a b : Cell} → Mem a p → T (touch a b) → Mem b P → ⊥
         out {a} {b} m t k = T-not (has same P a) (lies m .1) (has-of cells (part-closed touch c l k (tail (lies m .0)) (flip a b t)))
+
         stays : {a b : Cell} → Mem a p → Mem b (c ∷ l) → T (touch a b) → Mem b (keep (λ d. not (has same P d)) l)
         stays {a} {b} m k t =
             ⊎-elim (λ e. absurd (out m t (mem-cast e (part-self touch c l))))
@@ -126,7 +132,9 @@ module _ (touch : Cell → Cell → Bool) where
       where
         P : List Cell
         P = part touch c l
+
         rest : List Cell
         rest = keep (λ d. not (has same P d)) l
+
         stays : T (not (has same P a)) → Mem a rest
         stays t = ⊎-elim (λ e. absurd (T-not (has same P a) t (has-of cells (mem-cast e (part-self touch c l))))) (λ k. keep-in (λ d. not (has same P d)) k t) (mem-cons m)

@@ -28,11 +28,14 @@ module _ (cellsOf : ℕ → List Cell) where
     where
       rest : List (ℕ × Group)
       rest = gather (λ h. recordOf h (cellsOf h)) l
+
       is : (cs : List Cell) → cellsOf x ≡ cs → eqb g x ≡ true → shownOf (cellsOf g) ≡ shownOf cs
       is cs f e = ap (λ h. shownOf (cellsOf h)) (eqb→eq g x (T-true e)) ∙ ap shownOf f
+
       either : (b : Bool) (o : Option Group) → o ≡ none → cond b o none ≡ none
       either true o e = e
       either false o e = refl
+
       go : (cs : List Cell) (b : Bool) → cellsOf x ≡ cs → eqb g x ≡ b → get eqb rest g ≡ cond (has eqb l g) (shownOf (cellsOf g)) none → get eqb (recordOf x cs ++ rest) g ≡ cond (b || has eqb l g) (shownOf (cellsOf g)) none
       go [] true f e r = r ∙ either (has eqb l g) (shownOf (cellsOf g)) (is [] f e) ∙ sym (is [] f e)
       go [] false f e r = r
@@ -72,9 +75,9 @@ module _ (ids : Ids) where
   records-get g =
       found (members ids) (ascending ltb (values ids)) g
       ∙ ⊎-elim (λ m. cond-yes (has eqb (ascending ltb (values ids)) g) (shownOf (members ids g)) none (has-of numbers m))
-        (λ n. cond-no (has eqb (ascending ltb (values ids)) g) (shownOf (members ids g)) none (hasnt-of numbers g (ascending ltb (values ids)) n)
-          ∙ sym (ap shownOf (members-none (λ m. n (ascending-in numbers (values ids) m)))))
-        (mem-or numbers g (ascending ltb (values ids)))
+      (λ n. cond-no (has eqb (ascending ltb (values ids)) g) (shownOf (members ids g)) none (hasnt-of numbers g (ascending ltb (values ids)) n)
+      ∙ sym (ap shownOf (members-none (λ m. n (ascending-in numbers (values ids) m)))))
+      (mem-or numbers g (ascending ltb (values ids)))
 
   -- Under an id that no cell has stands nothing.
   pub records-none : (g : ℕ) → (Mem g (values ids) → ⊥) → get eqb (records ids) g ≡ none

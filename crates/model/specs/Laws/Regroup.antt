@@ -46,5 +46,5 @@ module _ (touch : Cell → Cell → Bool) where
   pub regroup-out : (occupied emptied : List Cell) (s : Groups) {a : Cell} → In same (regroup touch occupied emptied s .ids) a → (Mem a occupied ⊎ In same (s .ids) a) × (Mem a emptied → ⊥)
   regroup-out occupied emptied s {a} d =
       let r : Mem a (addAll (keys (s .ids)) occupied) × T (not (has same emptied a)) =
-        keep-out (λ c. not (has same emptied c)) (addAll (keys (s .ids)) occupied) (subst (λ l. Mem a l) (keys-regroup touch occupied emptied s) (at-key cells (regroup touch occupied emptied s .ids) (d .1))) in
+      keep-out (λ c. not (has same emptied c)) (addAll (keys (s .ids)) occupied) (subst (λ l. Mem a l) (keys-regroup touch occupied emptied s) (at-key cells (regroup touch occupied emptied s .ids) (d .1))) in
       (⊎-elim inl (λ k. inr (key-at cells (s .ids) k)) (addAll-out occupied (keys (s .ids)) (r .0)), of-hasnt cells emptied (r .1))

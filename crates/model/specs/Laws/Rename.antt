@@ -36,8 +36,10 @@ eqb-same m n m′ n′ d e t = subst (λ k. T (eqb m′ k)) (numbers .tri m′ n
   where
     is : m ≡ n
     is = eqb→eq m n t
+
     a : T (not (ltb m′ n′))
     a = not-T (ltb m′ n′) (λ u. let w = ltb→lt m n (subst T (sym d) u) in omega (arith, is))
+
     b : T (not (ltb n′ m′))
     b = not-T (ltb n′ m′) (λ u. let w = ltb→lt n m (subst T (sym e) u) in omega (arith, is))
 
@@ -87,6 +89,7 @@ module _ (f : ℕ → ℕ) (L : ℕ → Type 0) (mono : Mono f L) where
       chosen : (b : Bool) → L (cond b h g)
       chosen true = ls h (head refl)
       chosen false = l
+
       first : cond (ltb (size (ren f ids) (f g)) (size (ren f ids) (f h))) (f h) (f g) ≡ f (cond (ltb (size ids g) (size ids h)) h g)
       first =
           ap₂ (λ a b. cond (ltb (length a) (length b)) (f h) (f g)) (members-ren ids u g l) (members-ren ids u h (ls h (head refl)))
@@ -102,7 +105,7 @@ module _ (f : ℕ → ℕ) (L : ℕ → Type 0) (mono : Mono f L) where
   merge-ren w gs ls ids u =
       change-change (λ c h. cond (has eqb (each f gs) h) (f w) h) (λ c h. f h) ids
       ∙ change-ext (λ c h. cond (has eqb (each f gs) (f h)) (f w) (f h)) (λ c h. f (cond (has eqb gs h) w h)) ids
-        (λ q m. ap (λ b. cond b (f w) (f (q .1))) (one-ren gs (q .1) (u q m) ls) ∙ pick f (has eqb gs (q .1)) (q .1) w)
+      (λ q m. ap (λ b. cond b (f w) (f (q .1))) (one-ren gs (q .1) (u q m) ls) ∙ pick f (has eqb gs (q .1)) (q .1) w)
       ∙ sym (change-change (λ c h. f h) (λ c h. cond (has eqb gs h) w h) ids)
 
 -- The second's ids are the first's, renamed in order; L are the ids in use since the two were compared.
@@ -185,9 +188,11 @@ module _ (s t : Groups) (sim : Sim s t) where
           uses = from;
           low = λ g l. ⊎-elim (λ a. let u = sim .low g a in omega arith) (λ h. omega arith) l;
           low′ = λ g l. ⊎-elim (λ a. let u = sim .low′ g a in let w = f-old g a in omega arith) (λ h. let w = f-new h in omega arith) l;
-          mono = mono⁺ };
+          mono = mono⁺;
+        };
         kept = λ g l. inl l;
-        agree = λ g l. f-old g l }
+        agree = λ g l. f-old g l;
+      }
 
   -- A table whose ids are old.
   sim⁰ : (ids ids′ : Ids) → ids′ ≡ ren (sim .f) ids → ((q : Cell × ℕ) → Mem q ids → sim .L (q .1)) → Step s t (record { ids = ids; next = s .next }) (record { ids = ids′; next = t .next }) sim
@@ -195,7 +200,8 @@ module _ (s t : Groups) (sim : Sim s t) where
       record {
         then = record { f = sim .f; L = sim .L; same = e; uses = from; low = sim .low; low′ = sim .low′; mono = sim .mono };
         kept = λ g l. l;
-        agree = λ g l. refl }
+        agree = λ g l. refl;
+      }
 
   -- A piece takes the next id in the renamed table.
   relabel-ren : (p : List Cell) (ids : Ids) → Uses (sim .L) ids → relabel (t .next) p (ren (sim .f) ids) ≡ ren f⁺ (relabel (s .next) p ids)
@@ -221,7 +227,7 @@ module _ (s t : Groups) (sim : Sim s t) where
         sim⁺ (relabel (s .next) p (s .ids)) (relabel (t .next) p (t .ids))
         (ap (λ k. relabel (t .next) p k) (sim .same) ∙ relabel-ren p (s .ids) (sim .uses))
         (λ q m. let r : (x : Cell × ℕ) × Mem x (s .ids) × (q ≡ (x .0, cond (has same p (x .0)) (s .next) (x .1))) = each-out (λ (x : Cell × ℕ). (x .0, cond (has same p (x .0)) (s .next) (x .1))) (s .ids) m in
-          subst L⁺ (sym (ap (λ (x : Cell × ℕ). x .1) (r .2))) (go (has same p (r .0 .0)) (r .0) (r .1)))
+        subst L⁺ (sym (ap (λ (x : Cell × ℕ). x .1) (r .2))) (go (has same p (r .0 .0)) (r .0) (r .1)))
       where
         go : (b : Bool) (x : Cell × ℕ) → Mem x (s .ids) → L⁺ (cond b (s .next) (x .1))
         go true x m = inr refl
@@ -236,17 +242,20 @@ module _ (s t : Groups) (sim : Sim s t) where
     join-sim c (g ∷ gs) ls =
         sim⁰ (merge w (g ∷ gs) ids₁) _
         (ap (λ i. merge (largestGroup i (sim .f g) (each (sim .f) gs)) (each (sim .f) (g ∷ gs)) i) (ap (λ i. put below c (sim .f g) i) (sim .same) ∙ put-ren (sim .f) c g (s .ids))
-          ∙ ap (λ k. merge k (each (sim .f) (g ∷ gs)) (ren (sim .f) ids₁)) (largest-ren (sim .f) (sim .L) (sim .mono) ids₁ uses₁ g gs (ls g (head refl)) (λ h m. ls h (tail m)))
-          ∙ merge-ren (sim .f) (sim .L) (sim .mono) w (g ∷ gs) ls ids₁ uses₁)
+        ∙ ap (λ k. merge k (each (sim .f) (g ∷ gs)) (ren (sim .f) ids₁)) (largest-ren (sim .f) (sim .L) (sim .mono) ids₁ uses₁ g gs (ls g (head refl)) (λ h m. ls h (tail m)))
+        ∙ merge-ren (sim .f) (sim .L) (sim .mono) w (g ∷ gs) ls ids₁ uses₁)
         (λ q m. let r : (x : Cell × ℕ) × Mem x ids₁ × (q ≡ (x .0, cond (has eqb (g ∷ gs) (x .1)) w (x .1))) = each-out (λ (x : Cell × ℕ). (x .0, cond (has eqb (g ∷ gs) (x .1)) w (x .1))) ids₁ m in
-          subst (sim .L) (sym (ap (λ (x : Cell × ℕ). x .1) (r .2))) (go (has eqb (g ∷ gs) (r .0 .1)) (r .0) (r .1)))
+        subst (sim .L) (sym (ap (λ (x : Cell × ℕ). x .1) (r .2))) (go (has eqb (g ∷ gs) (r .0 .1)) (r .0) (r .1)))
       where
         ids₁ : Ids
         ids₁ = put below c g (s .ids)
+
         w : ℕ
         w = largestGroup ids₁ g gs
+
         uses₁ : (q : Cell × ℕ) → Mem q ids₁ → sim .L (q .1)
         uses₁ q m = ⊎-elim (λ e. subst (sim .L) (sym (ap (λ (x : Cell × ℕ). x .1) e)) (ls g (head refl))) (λ k. sim .uses q k) (put-out cells (s .ids) c g m)
+
         go : (b : Bool) (x : Cell × ℕ) → Mem x ids₁ → sim .L (cond b w (x .1))
         go true x m = ls w (largest-in ids₁ g gs)
         go false x m = uses₁ x m
@@ -274,7 +283,8 @@ step-more st st′ =
     record {
       then = st′ .then;
       kept = λ g l. st′ .kept g (st .kept g l);
-      agree = λ g l. st′ .agree g (st .kept g l) ∙ st .agree g l }
+      agree = λ g l. st′ .agree g (st .kept g l) ∙ st .agree g l;
+    }
 
 module _ (f : ℕ → ℕ) (L : ℕ → Type 0) (mono : Mono f L) where
   -- An addition goes through a renaming.

@@ -1,16 +1,16 @@
 -- The test that ids are shared exactly by joined cells.
 use Prim.Native.Nat.{ℕ}
-use mathlib.Core.Path.{_≡_, refl, sym, _∙_, ap, subst}
-use mathlib.Core.Logic.{_⊎_, inl, inr, ⊎-elim, _↔_}
-use mathlib.Core.Bool.{Bool, true, false, cond, _&&_, not}
-use mathlib.Core.List.{List, [], _∷_, _++_, List·Memᴰ as Mem, List·Memᴰ·head as head, List·Memᴰ·tail as tail, List·Memᴰ·cases-cons as mem-cons, Memᴰ·cast as mem-cast}
-use lib.Dec.{T, T-not, eqb, eqb→eq}
-use Rattle.model.specs.Lists.{all, has, without, keys}
-use Rattle.model.specs.Cells.{Cell, same, below}
-use Rattle.model.specs.Paths.{Path, Joined}
+use mathlib.Core.Path.{_≡_}
+use mathlib.Core.Logic.{⊎-elim, _↔_}
+use mathlib.Core.Bool.{Bool, true, false}
+use mathlib.Core.List.{List, _∷_, List·Memᴰ as Mem, List·Memᴰ·head as head, List·Memᴰ·tail as tail, List·Memᴰ·cases-cons as mem-cons, Memᴰ·cast as mem-cast}
+use lib.Dec.{T, eqb, eqb→eq}
+use Rattle.model.specs.Lists.{all, without, keys}
+use Rattle.model.specs.Cells.{Cell, same}
+use Rattle.model.specs.Paths.{Joined}
 use Rattle.model.specs.Groups.{Ids, part}
 use Rattle.model.specs.Consistent.{joinedIn, agree}
-use Rattle.model.specs.Laws.Tests.{eqb-of, decided}
+use Rattle.model.specs.Laws.Tests.{eqb-of}
 use Rattle.model.specs.Laws.Orders.{cells, is-or}
 use Rattle.model.specs.Laws.Members.{all-in, all-out, has-of, of-has, without-in, without-out, key-in}
 use Rattle.model.specs.Laws.Walks.{wider, back, part-path, part-of-path}
@@ -55,12 +55,13 @@ module _ (touch : Cell → Cell → Bool) (flip : (a b : Cell) → T (touch a b)
   pub shared-in : (ids : Ids) → Shared touch ids → T (sharedIn touch ids)
   shared-in ids h =
       all-in _ ids (λ p m. all-in _ ids (λ q k.
-        agree-in (eqb (p .1) (q .1)) (joinedIn touch (keys ids) (p .0) (q .0))
-        (λ t. joined-in (keys ids) (p .0) (q .0) (h p q m k .0 (eqb→eq (p .1) (q .1) t)))
-        (λ t. eqb-of (p .1) (q .1) (h p q m k .1 (joined-out (keys ids) (p .0) (q .0) (key-in m) t)))))
+      agree-in (eqb (p .1) (q .1)) (joinedIn touch (keys ids) (p .0) (q .0))
+      (λ t. joined-in (keys ids) (p .0) (q .0) (h p q m k .0 (eqb→eq (p .1) (q .1) t)))
+      (λ t. eqb-of (p .1) (q .1) (h p q m k .1 (joined-out (keys ids) (p .0) (q .0) (key-in m) t)))))
 
   pub shared-out : (ids : Ids) → T (sharedIn touch ids) → Shared touch ids
   shared-out ids t p q m k =
-      let r = agree-out (eqb (p .1) (q .1)) (joinedIn touch (keys ids) (p .0) (q .0)) (all-out _ ids (all-out _ ids t m) k) in
-      (λ e. joined-out (keys ids) (p .0) (q .0) (key-in m) (r .0 (eqb-of (p .1) (q .1) e)),
-       λ w. eqb→eq (p .1) (q .1) (r .1 (joined-in (keys ids) (p .0) (q .0) w)))
+      let r = agree-out (eqb (p .1) (q .1)) (joinedIn touch (keys ids) (p .0) (q .0)) (all-out _ ids (all-out _ ids t m) k) in (
+        λ e. joined-out (keys ids) (p .0) (q .0) (key-in m) (r .0 (eqb-of (p .1) (q .1) e)),
+        λ w. eqb→eq (p .1) (q .1) (r .1 (joined-in (keys ids) (p .0) (q .0) w)),
+      )

@@ -57,7 +57,8 @@ module _ (touch : Cell → Cell → Bool) (flip : (a b : Cell) → T (touch a b)
           fair = fair-only cells stays (s .ids) (ok .fair);
           under = λ p. ok .under (at-of-only cells stays (s .ids) p .0);
           edge = λ p q t. ok .edge (at-of-only cells stays (s .ids) p .0) (at-of-only cells stays (s .ids) q .0) t;
-          joined = λ p q n. stay p n (ok .joined (at-of-only cells stays (s .ids) p .0) (at-of-only cells stays (s .ids) q .0) (λ k. mem-nil k)) }
+          joined = λ p q n. stay p n (ok .joined (at-of-only cells stays (s .ids) p .0) (at-of-only cells stays (s .ids) q .0) (λ k. mem-nil k));
+        }
 
   -- A piece that is joined by paths and that no cell outside it touches.
   pub record Solid (ids : Ids) (p : List Cell) : Type 0 where
@@ -70,7 +71,8 @@ module _ (touch : Cell → Cell → Bool) (flip : (a b : Cell) → T (touch a b)
     solid-take ok =
         record {
           closed = λ m d t. ok .closed m (in-keys (keys-take touch s p) d) t;
-          linked = λ m k. wider touch (λ x d. in-keys (sym (keys-take touch s p)) d) (ok .linked m k) }
+          linked = λ m k. wider touch (λ x d. in-keys (sym (keys-take touch s p)) d) (ok .linked m k);
+        }
 
     -- A solid piece that takes the next id keeps the invariant.
     pub take-fine : (gs : List ℕ) → Fine touch gs s → Solid (s .ids) p → Fine touch gs (takeNext touch s p)
@@ -79,16 +81,17 @@ module _ (touch : Cell → Cell → Bool) (flip : (a b : Cell) → T (touch a b)
           fair = fair-change cells (λ a h. cond (has same p a) (s .next) h) (s .ids) (ok .fair);
           under = λ {a} {g} q. take-under touch s p (λ b h r. ok .under r) a g q;
           edge = λ {a} {b} {g} {h} q r t.
-            ⊎-elim
-            (λ k. ⊎-elim (λ j. k .1 ∙ sym (j .1)) (λ j. absurd (j .0 (solid .closed (k .0) (h, j .1) t))) (take-cases touch s p r))
-            (λ k. ⊎-elim (λ j. absurd (k .0 (solid .closed (j .0) (g, k .1) (flip a b t)))) (λ j. ok .edge (k .1) (j .1) t) (take-cases touch s p r))
-            (take-cases touch s p q);
+              ⊎-elim
+              (λ k. ⊎-elim (λ j. k .1 ∙ sym (j .1)) (λ j. absurd (j .0 (solid .closed (k .0) (h, j .1) t))) (take-cases touch s p r))
+              (λ k. ⊎-elim (λ j. absurd (k .0 (solid .closed (j .0) (g, k .1) (flip a b t)))) (λ j. ok .edge (k .1) (j .1) t) (take-cases touch s p r))
+              (take-cases touch s p q);
           joined = λ {a} {b} {g} q r n.
-            wider touch (λ x d. in-keys (sym (keys-take touch s p)) d)
-            (⊎-elim
+              wider touch (λ x d. in-keys (sym (keys-take touch s p)) d)
+              (⊎-elim
               (λ k. ⊎-elim (λ j. solid .linked (k .0) (j .0)) (λ j. let e = k .1 in let h = ok .under (j .1) in absurd (omega arith)) (take-cases touch s p r))
               (λ k. ⊎-elim (λ j. let e = j .1 in let h = ok .under (k .1) in absurd (omega arith)) (λ j. ok .joined (k .1) (j .1) n) (take-cases touch s p r))
-              (take-cases touch s p q)) }
+              (take-cases touch s p q));
+        }
 
   -- Solid pieces that take the next ids one after the other keep the invariant.
   pub takes-fine : (ps : List (List Cell)) (s : Groups) (gs : List ℕ) → Fine touch gs s → ((p : List Cell) → Mem p ps → Solid (s .ids) p) → Fine touch gs (run (takeNext touch) s ps)
@@ -105,10 +108,12 @@ module _ (touch : Cell → Cell → Bool) (flip : (a b : Cell) → T (touch a b)
     piece-solid {p} m =
         record {
           closed = λ {a} {b} k d t. piece .closed k (beside (piece .sub k) d t) t;
-          linked = λ k j. wider touch (λ x h. (g, members-out (s .ids) g (ok .fair) h)) (piece .linked k j) }
+          linked = λ k j. wider touch (λ x h. (g, members-out (s .ids) g (ok .fair) h)) (piece .linked k j);
+        }
       where
         piece : Piece touch group p
         piece = pieces-are touch flip (length group) group (le-refl (length group)) m
+
         beside : {a b : Cell} → Mem a group → In same (s .ids) b → T (touch a b) → Mem b group
         beside {a} {b} k d t = members-in (s .ids) (subst (λ h. At same (s .ids) b h) (sym (ok .edge (members-out (s .ids) g (ok .fair) k) (d .1) t)) (d .1))
 
@@ -152,11 +157,12 @@ module _ (touch : Cell → Cell → Bool) (flip : (a b : Cell) → T (touch a b)
             under = λ q. whole .under q;
             edge = λ q r t. whole .edge q r t;
             joined = λ {a} {b} {g = h} q r n.
-              ⊎-elim (λ t. let e : h ≡ g = eqb→eq h g t in
+                ⊎-elim (λ t. let e : h ≡ g = eqb→eq h g t in
                 wider touch (λ x d. in-keys (sym (keys-takes touch others s)) d)
                 (largest-solid .linked (in-largest (subst (λ k. At same (s′ .ids) a k) e q)) (in-largest (subst (λ k. At same (s′ .ids) b k) e r))))
-              (λ t. whole .joined q r (λ m. ⊎-elim (λ e. T-not (eqb h g) t (subst (λ k. T (eqb h k)) e (eqb-refl h))) (λ k. n k) (mem-cons m)))
-              (decided (eqb h g)) }
+                (λ t. whole .joined q r (λ m. ⊎-elim (λ e. T-not (eqb h g) t (subst (λ k. T (eqb h k)) e (eqb-refl h))) (λ k. n k) (mem-cons m)))
+                (decided (eqb h g));
+          }
 
     split-none : parts touch group ≡ [] → Fine touch gs s
     split-none is =
@@ -164,7 +170,8 @@ module _ (touch : Cell → Cell → Bool) (flip : (a b : Cell) → T (touch a b)
           fair = ok .fair;
           under = λ q. ok .under q;
           edge = λ q r t. ok .edge q r t;
-          joined = λ {a} {b} {g = h} q r n. ok .joined q r (λ m. ⊎-elim (λ e. no-cell (subst (λ k. At same (s .ids) a k) e q)) (λ k. n k) (mem-cons m)) }
+          joined = λ {a} {b} {g = h} q r n. ok .joined q r (λ m. ⊎-elim (λ e. no-cell (subst (λ k. At same (s .ids) a k) e q)) (λ k. n k) (mem-cons m));
+        }
       where
         no-cell : {a : Cell} → At same (s .ids) a g → ⊥
         no-cell {a} q =

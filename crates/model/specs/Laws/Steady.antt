@@ -38,7 +38,8 @@ module _ (touch : Cell → Cell → Bool) where
         sound = nothing-sound touch;
         fine = record { fair = λ q m. absurd (mem-nil m); under = λ p. absurd (at-nil p); edge = λ p q t. absurd (at-nil p); joined = λ p q n. absurd (at-nil p) };
         idCells = refl;
-        shown = refl }
+        shown = refl;
+      }
 
   -- The cells with an id are ascending.
   pub ids-asc : (s : State) → Steady touch s → Asc below (keys (s .groups .ids))
@@ -70,18 +71,21 @@ module _ (touch : Cell → Cell → Bool) where
           sound = sound′;
           fine = regroup-fine touch (laws .flip) (after .newlyOccupied) (after .newlyEmptied) (s .groups) (ok .fine) opened-asc opened-free;
           idCells =
-            asc-equal cells _ _ (regroup-asc touch (after .newlyOccupied) (after .newlyEmptied) (s .groups) (ids-asc s ok)) (occupied-asc touch after sound′)
-            (λ a m. old a (regroup-out touch (after .newlyOccupied) (after .newlyEmptied) (s .groups) (key-at cells _ m)))
-            (λ a m. at-key cells _ (regroup-in touch (after .newlyOccupied) (after .newlyEmptied) (s .groups) (new a m) (λ k. minus-out cells (occupied (s .occupancy)) (occupied after) (subst (λ l. Mem a l) (net .emptied) k) .1 m) .1));
-          shown = refl }
+              asc-equal cells _ _ (regroup-asc touch (after .newlyOccupied) (after .newlyEmptied) (s .groups) (ids-asc s ok)) (occupied-asc touch after sound′)
+              (λ a m. old a (regroup-out touch (after .newlyOccupied) (after .newlyEmptied) (s .groups) (key-at cells _ m)))
+              (λ a m. at-key cells _ (regroup-in touch (after .newlyOccupied) (after .newlyEmptied) (s .groups) (new a m) (λ k. minus-out cells (occupied (s .occupancy)) (occupied after) (subst (λ l. Mem a l) (net .emptied) k) .1 m) .1));
+          shown = refl;
+        }
       where
         sound′ : Sound touch after
         sound′ = batch-sound touch (laws .flip) (laws .apart) b (s .occupancy) (ok .sound)
+
         old : (a : Cell) → (Mem a (after .newlyOccupied) ⊎ In same (s .groups .ids) a) × (Mem a (after .newlyEmptied) → ⊥) → Mem a (occupied after)
         old a r =
             ⊎-elim (λ m. minus-out cells (occupied after) (occupied (s .occupancy)) (subst (λ l. Mem a l) (net .opened) m) .0)
             (λ d. ⊎-elim (λ m. m) (λ n. absurd (r .1 (subst (λ l. Mem a l) (sym (net .emptied)) (minus-in cells (occupied after) (subst (λ l. Mem a l) (ok .idCells) (at-key cells (s .groups .ids) (d .1))) n)))) (mem-or cells a (occupied after)))
             (r .0)
+
         new : (a : Cell) → Mem a (occupied after) → Mem a (after .newlyOccupied) ⊎ In same (s .groups .ids) a
         new a m =
             ⊎-elim (λ k. inr (key-at cells (s .groups .ids) (subst (λ l. Mem a l) (sym (ok .idCells)) k)))

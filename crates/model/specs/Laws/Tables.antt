@@ -323,8 +323,10 @@ module _ {K W : Type 0} {eq lt : K → K → Bool} (laws : Ordered eq lt) where
     where
       hd : x ≡ y
       hd = ⊎-elim (λ e. e) (λ k. ⊎-elim (λ e. sym e) (λ j. absurd (asym laws (x .0) (y .0) (asc-head s (y .0) (key-in j)) (asc-head r (x .0) (key-in k)))) (mem-cons (g y (head refl)))) (mem-cons (f x (head refl)))
+
       down : (q : K × W) → Mem q t → Mem q u
       down q k = ⊎-elim (λ e. absurd (lt-differ laws (x .0) (q .0) (asc-head s (q .0) (key-in k)) (ap (λ (p : K × W). p .0) (hd ∙ sym e)))) (λ j. j) (mem-cons (f q (tail k)))
+
       up : (q : K × W) → Mem q u → Mem q t
       up q k = ⊎-elim (λ e. absurd (lt-differ laws (y .0) (q .0) (asc-head r (q .0) (key-in k)) (ap (λ (p : K × W). p .0) (sym hd ∙ sym e)))) (λ j. j) (mem-cons (g q (tail k)))
 
@@ -390,6 +392,7 @@ module _ {K W : Type 0} {eq lt : K → K → Bool} (laws : Ordered eq lt) where
           let r : At eq (put lt c v t) a w × T (p a) = at-of-only laws p (put lt c v t) d in
           ⊎-elim (λ k. record { is = ap (λ b. get eq (put lt c v (only p t)) b) (k .0) ∙ get-put-self laws (only p t) c v ∙ ap some (sym (k .1)) })
           (λ k. at-put-other laws (only p t) c v (k .0) (at-only laws p t (k .1) (r .1))) (at-put-split laws t c v (r .0))
+
       back : {a : K} {w : W} → At eq (put lt c v (only p t)) a w → At eq (only p (put lt c v t)) a w
       back {a} {w} d =
           ⊎-elim (λ k. at-only laws p (put lt c v t) (record { is = ap (λ b. get eq (put lt c v t) b) (k .0) ∙ get-put-self laws t c v ∙ ap some (sym (k .1)) }) (subst (λ b. T (p b)) (sym (k .0)) u))
@@ -407,7 +410,7 @@ module _ {K W : Type 0} {eq lt : K → K → Bool} (laws : Ordered eq lt) where
   put-put t c v w s =
       table-same laws (put lt c v (put lt c w t)) (put lt c v t) (put-asc laws (put lt c w t) c v (put-asc laws t c w s)) (put-asc laws t c v s)
       (λ a. ⊎-elim (λ e. ap (λ b. get eq (put lt c v (put lt c w t)) b) e ∙ get-put-self laws (put lt c w t) c v ∙ sym (get-put-self laws t c v) ∙ ap (λ b. get eq (put lt c v t) b) (sym e))
-        (λ n. get-put-other laws (put lt c w t) c v a n ∙ get-put-other laws t c w a n ∙ sym (get-put-other laws t c v a n)) (is-or laws a c))
+      (λ n. get-put-other laws (put lt c w t) c v a n ∙ get-put-other laws t c w a n ∙ sym (get-put-other laws t c v a n)) (is-or laws a c))
 
   -- A value under a free key makes one row more.
   pub put-length-new : (t : List (K × W)) (c : K) (v : W) → Free eq t c → length (put lt c v t) ≡ suc (length t)

@@ -1,10 +1,10 @@
 -- Touching by a set of offsets: symmetric, within one grid, never of a cell and itself; and the neighbours in order.
 use Prim.Native.Nat.{ℕ, zero, suc, _+_, _-_, _≤_, _<_}
 use native.Mathlib.Omega.{arith}
-use mathlib.Core.Path.{_≡_, refl, sym, _∙_, ap, subst}
-use mathlib.Core.Logic.{_⊎_, inl, inr, ⊎-elim}
-use mathlib.Core.Bool.{Bool, true, false, cond, _&&_, _||_, not}
-use mathlib.Core.List.{List, [], _∷_, _++_, List·Memᴰ as Mem}
+use mathlib.Core.Path.{_≡_, sym, subst}
+use mathlib.Core.Logic.{⊎-elim}
+use mathlib.Core.Bool.{Bool, _&&_, _||_, not}
+use mathlib.Core.List.{List, List·Memᴰ as Mem}
 use lib.Dec.{T, T-not, not-T, eqb, eqb→eq, eqb-refl, leb, leb→le, le→leb, ltb, ltb→lt, lt→ltb}
 use Rattle.component.specs.Order.{before}
 use Rattle.component.specs.Touch.{close, touches}
@@ -58,6 +58,7 @@ back-leads a b o s t =
   where
     s1 : T (leb (o .dy) 2 && leb (o .dz) 2)
     s1 = and-snd (leb (o .dx) 2) _ s
+
     t1 : T (eqb (a .y + o .dy) (suc (b .y)) && eqb (a .z + o .dz) (suc (b .z)))
     t1 = and-snd (eqb (a .x + o .dx) (suc (b .x))) _ t
 
@@ -82,20 +83,21 @@ pub touching-by : (s : Offsets) → T (holdsOpposites s) → Touching (touchBy s
 touching-by s ok =
     record {
       flip = λ a b t.
-        let r = step-of s a b t in
-        let f : T (fair (r .0)) = all-out fair offsets26 all-fair (r .1) in
-        let q : T (small (r .0)) = and-fst (small (r .0)) _ f in
-        let p = any-out (sameOffset (opposite (r .0))) offsets26 (and-snd (not (sameOffset (r .0) (record { dx = 1; dy = 1; dz = 1 }))) _ (and-snd (small (r .0)) _ f)) in
-        let e : opposite (r .0) ≡ p .0 = offset-eq (opposite (r .0)) (p .0) (p .2) in
-        let h : T (s (opposite (r .0))) = ⊎-elim (λ n. absurd (T-not (s (r .0)) n (r .2))) (λ u. u) (or-cases (not (s (r .0))) _ (all-out (λ o. not (s o) || s (opposite o)) offsets26 ok (r .1))) in
-        and-both (eqb (b .grid) (a .grid)) _ (eqb-of (b .grid) (a .grid) (sym (eqb→eq (a .grid) (b .grid) (and-fst (eqb (a .grid) (b .grid)) _ t))))
-        (any-in (λ o. s o && leads b a o) (p .1)
+          let r = step-of s a b t in
+          let f : T (fair (r .0)) = all-out fair offsets26 all-fair (r .1) in
+          let q : T (small (r .0)) = and-fst (small (r .0)) _ f in
+          let p = any-out (sameOffset (opposite (r .0))) offsets26 (and-snd (not (sameOffset (r .0) (record { dx = 1; dy = 1; dz = 1 }))) _ (and-snd (small (r .0)) _ f)) in
+          let e : opposite (r .0) ≡ p .0 = offset-eq (opposite (r .0)) (p .0) (p .2) in
+          let h : T (s (opposite (r .0))) = ⊎-elim (λ n. absurd (T-not (s (r .0)) n (r .2))) (λ u. u) (or-cases (not (s (r .0))) _ (all-out (λ o. not (s o) || s (opposite o)) offsets26 ok (r .1))) in
+          and-both (eqb (b .grid) (a .grid)) _ (eqb-of (b .grid) (a .grid) (sym (eqb→eq (a .grid) (b .grid) (and-fst (eqb (a .grid) (b .grid)) _ t))))
+          (any-in (λ o. s o && leads b a o) (p .1)
           (subst (λ o. T (s o && leads b a o)) e (and-both (s (opposite (r .0))) _ h (back-leads a b (r .0) q (r .3)))));
       apart = λ a t.
-        let r = step-of s a a t in
-        let f : T (fair (r .0)) = all-out fair offsets26 all-fair (r .1) in
-        T-not (sameOffset (r .0) (record { dx = 1; dy = 1; dz = 1 })) (and-fst (not (sameOffset (r .0) (record { dx = 1; dy = 1; dz = 1 }))) _ (and-snd (small (r .0)) _ f)) (leads-self a (r .0) (r .3));
-      one-grid = λ a b t. eqb→eq _ _ (and-fst (eqb (a .grid) (b .grid)) _ t) }
+          let r = step-of s a a t in
+          let f : T (fair (r .0)) = all-out fair offsets26 all-fair (r .1) in
+          T-not (sameOffset (r .0) (record { dx = 1; dy = 1; dz = 1 })) (and-fst (not (sameOffset (r .0) (record { dx = 1; dy = 1; dz = 1 }))) _ (and-snd (small (r .0)) _ f)) (leads-self a (r .0) (r .3));
+      one-grid = λ a b t. eqb→eq _ _ (and-fst (eqb (a .grid) (b .grid)) _ t);
+    }
 
 -- Touching by all 26.
 pub touching-26 : Touching (touchBy all26)
@@ -226,6 +228,7 @@ touch26-touches a b = same-test (touchBy all26 a b) (touches a b) to from
         (and-both (close (a .y) (b .y)) _ (step-close (a .y) (b .y) (r .0 .dy) (leb→le (r .0 .dy) 2 (and-fst (leb (r .0 .dy) 2) _ s1)) (eqb→eq (a .y + r .0 .dy) (suc (b .y)) (and-fst (eqb (a .y + r .0 .dy) (suc (b .y))) _ l1)))
         (and-both (close (a .z) (b .z)) _ (step-close (a .z) (b .z) (r .0 .dz) (leb→le (r .0 .dz) 2 (and-snd (leb (r .0 .dy) 2) _ s1)) (eqb→eq (a .z + r .0 .dz) (suc (b .z)) (and-snd (eqb (a .y + r .0 .dy) (suc (b .y))) _ l1)))
         (differ cells (λ e. touching-26 .apart a (subst (λ c. T (touchBy all26 a c)) (sym e) t))))))
+
     from : T (touches a b) → T (touchBy all26 a b)
     from t =
         let t1 : T (close (a .x) (b .x) && (close (a .y) (b .y) && (close (a .z) (b .z) && not (same a b)))) = and-snd (eqb (a .grid) (b .grid)) _ t in

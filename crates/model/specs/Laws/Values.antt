@@ -58,4 +58,4 @@ module _ {K W : Type 0} {eq lt : K → K → Bool} (laws : Ordered eq lt) (t : L
   value-drop-in {v} {w} s p m n =
       let r : (j : K) × Mem (j, w) t = value-out t m in
       value-in (keep-in (λ (q : K × W). not (eq k (q .0))) (r .1)
-        (differ laws (λ e. n (asc-one-row laws t s (subst (λ j. Mem (j, w) t) (sym e) (r .1)) (at-mem laws t p)))))
+      (differ laws (λ e. n (asc-one-row laws t s (subst (λ j. Mem (j, w) t) (sym e) (r .1)) (at-mem laws t p)))))

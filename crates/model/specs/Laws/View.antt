@@ -62,8 +62,8 @@ module _ (touch : Cell → Cell → Bool) (on : Cell → Bool) (stays : (a b : C
       found-side g gs is h m q k t =
           ⊎-elim (λ e. subst (λ x. T (on x)) (sym (ap (λ (p : Cell × ℕ). p .0) e)) o)
           (λ j.
-            let r : (a : Cell) × At same (s .ids) a h × T (touch c a) = found-out touch (s .ids) c (ok .fair) (subst (λ l. Mem h l) (sym is) m) in
-            one-side (subst (λ x. At same (s .ids) (r .0) x) (eqb→eq h (q .1) t) (r .1)) (ok .fair q j) (stays c (r .0) (r .2) o))
+          let r : (a : Cell) × At same (s .ids) a h × T (touch c a) = found-out touch (s .ids) c (ok .fair) (subst (λ l. Mem h l) (sym is) m) in
+          one-side (subst (λ x. At same (s .ids) (r .0) x) (eqb→eq h (q .1) t) (r .1)) (ok .fair q j) (stays c (r .0) (r .2) o))
           (put-out cells (s .ids) c g k)
 
       -- A cell of the set joins the groups found on the set by itself.
@@ -73,10 +73,13 @@ module _ (touch : Cell → Cell → Bool) (on : Cell → Bool) (stays : (a b : C
         where
           ids₁ : Ids
           ids₁ = put below c g (s .ids)
+
           put′ : only on ids₁ ≡ put below c g (only on (s .ids))
           put′ = only-put-yes cells on (s .ids) c g asc o
+
           big : largestGroup ids₁ g gs ≡ largestGroup (put below c g (only on (s .ids))) g gs
           big = sym (largest-agree (only on ids₁) ids₁ g gs (λ h m. members-on on ids₁ h (found-side g gs is h m))) ∙ ap (λ i. largestGroup i g gs) put′
+
           same′ : only on (merge (largestGroup ids₁ g gs) (g ∷ gs) ids₁) ≡ merge (largestGroup (put below c g (only on (s .ids))) g gs) (g ∷ gs) (put below c g (only on (s .ids)))
           same′ =
               only-change on (λ x h. cond (has eqb (g ∷ gs) h) (largestGroup ids₁ g gs) h) ids₁
@@ -99,11 +102,13 @@ module _ (touch : Cell → Cell → Bool) (on : Cell → Bool) (stays : (a b : C
             where
               ids₁ : Ids
               ids₁ = put below c g (s .ids)
+
               to : Cell → ℕ → ℕ
               to x h = cond (has eqb (g ∷ gs) h) (largestGroup ids₁ g gs) h
+
               untouched : (q : Cell × ℕ) → Mem q (s .ids) × T (on (q .0)) → to (q .0) (q .1) ≡ q .1
               untouched q m =
                   ap (λ b. cond b (largestGroup ids₁ g gs) (q .1))
                   (false-of (has eqb (g ∷ gs) (q .1)) (not-T (has eqb (g ∷ gs) (q .1)) (λ t.
-                    let r : (a : Cell) × At same (s .ids) a (q .1) × T (touch c a) = found-out touch (s .ids) c (ok .fair) (subst (λ l. Mem (q .1) l) (sym is) (of-has numbers (g ∷ gs) t)) in
-                    T-not (on c) n (stays (r .0) c (flip c (r .0) (r .2)) (one-side (ok .fair q (m .0)) (r .1) (m .1))))))
+                  let r : (a : Cell) × At same (s .ids) a (q .1) × T (touch c a) = found-out touch (s .ids) c (ok .fair) (subst (λ l. Mem (q .1) l) (sym is) (of-has numbers (g ∷ gs) t)) in
+                  T-not (on c) n (stays (r .0) c (flip c (r .0) (r .2)) (one-side (ok .fair q (m .0)) (r .1) (m .1))))))

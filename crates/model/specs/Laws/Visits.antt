@@ -19,7 +19,7 @@ module _ (lists : List (Cell × List Cell)) where
   visit-all P f (suc n) (c ∷ queue) marked q m =
       ⊎-elim (λ e. q _ (head e))
       (λ k. visit-all P f n (queue ++ minus same (listOf lists c) marked) (marked ++ minus same (listOf lists c) marked)
-        (λ a j. ⊎-elim (λ i. q a (tail i)) (λ i. f c a (q c (head refl)) (minus-out cells (listOf lists c) marked i .0)) (append-cases queue j)) k)
+      (λ a j. ⊎-elim (λ i. q a (tail i)) (λ i. f c a (q c (head refl)) (minus-out cells (listOf lists c) marked i .0)) (append-cases queue j)) k)
       (mem-cons m)
 
   -- A cell that is visited is queued or not yet marked.
@@ -29,8 +29,8 @@ module _ (lists : List (Cell × List Cell)) where
   visit-fresh (suc n) (c ∷ queue) marked m =
       ⊎-elim (λ e. inl (head e))
       (λ k. ⊎-elim (λ j. ⊎-elim (λ i. inl (tail i)) (λ i. inr (minus-out cells (listOf lists c) marked i .1)) (append-cases queue j))
-        (λ j. inr (λ i. j (append-left _ i)))
-        (visit-fresh n (queue ++ minus same (listOf lists c) marked) (marked ++ minus same (listOf lists c) marked) k))
+      (λ j. inr (λ i. j (append-left _ i)))
+      (visit-fresh n (queue ++ minus same (listOf lists c) marked) (marked ++ minus same (listOf lists c) marked) k))
       (mem-cons m)
 
   module _ (lists-once : (c : Cell) → Once (listOf lists c)) where
@@ -47,10 +47,11 @@ module _ (lists : List (Cell × List Cell)) where
     visit-once (suc n) (c ∷ queue) marked o s =
         once-cons again
         (visit-once n (queue ++ new) (marked ++ new) (once-queued c queue marked (once-tail o) (λ a k. s a (tail k)))
-          (λ a k. ⊎-elim (λ j. append-left new (s a (tail j))) (λ j. append-right marked j) (append-cases queue k)))
+        (λ a k. ⊎-elim (λ j. append-left new (s a (tail j))) (λ j. append-right marked j) (append-cases queue k)))
       where
         new : List Cell
         new = minus same (listOf lists c) marked
+
         again : Mem c (visit lists n (queue ++ new) (marked ++ new)) → ⊥
         again m =
             ⊎-elim (λ k. ⊎-elim (once-head o) (λ j. minus-out cells (listOf lists c) marked j .1 (s c (head refl))) (append-cases queue k))
@@ -63,14 +64,16 @@ module _ (lists : List (Cell × List Cell)) where
         where
           new : List Cell
           new = minus same (listOf lists c) marked
+
           rest : List Cell
           rest = minus same among (marked ++ new)
+
           fewer : length (new ++ rest) ≤ length (minus same among marked)
           fewer =
               once-shorter (once-append new rest (once-keep _ (listOf lists c) (lists-once c)) (once-keep _ among among-once) (λ a k j. minus-out cells among (marked ++ new) j .1 (append-right marked k)))
               (minus same among marked)
               (λ a m. ⊎-elim (λ k. let r : Mem a (listOf lists c) × (Mem a marked → ⊥) = minus-out cells (listOf lists c) marked k in minus-in cells marked (lists-in c a (r .0)) (r .1))
-                (λ k. let r : Mem a among × (Mem a (marked ++ new) → ⊥) = minus-out cells among (marked ++ new) k in minus-in cells marked (r .0) (λ j. r .1 (append-left new j))) (append-cases new m))
+              (λ k. let r : Mem a among × (Mem a (marked ++ new) → ⊥) = minus-out cells among (marked ++ new) k in minus-in cells marked (r .0) (λ j. r .1 (append-left new j))) (append-cases new m))
 
       -- What is queued is visited, where the fuel lasts.
       pub visit-queued : (n : ℕ) (queue marked : List Cell) → length queue + length (minus same among marked) ≤ n → {a : Cell} → Mem a queue → Mem a (visit lists n queue marked)
@@ -93,5 +96,6 @@ module _ (lists : List (Cell × List Cell)) where
         where
           new : List Cell
           new = minus same (listOf lists c) marked
+
           at-new : Mem b new → Mem b (visit lists (suc n) (c ∷ queue) marked)
           at-new j = tail (visit-queued n (queue ++ new) (marked ++ new) (less c queue marked n h) (append-right queue j))

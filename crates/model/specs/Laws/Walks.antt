@@ -1,9 +1,9 @@
 -- Paths of touching cells, and `reach`, which finds the cells that they reach. Assumes nothing.
-use Prim.Native.Nat.{ℕ, zero, suc, _+_, _≤_, _<_}
+use Prim.Native.Nat.{ℕ, zero, suc, _+_, _≤_}
 use native.Mathlib.Omega.{arith}
-use mathlib.Core.Path.{_≡_, refl, sym, _∙_, ap, subst}
-use mathlib.Core.Logic.{_⊎_, inl, inr, ⊎-elim}
-use mathlib.Core.Bool.{Bool, true, false, cond, _&&_, _||_, not}
+use mathlib.Core.Path.{refl, sym, subst}
+use mathlib.Core.Logic.{⊎-elim}
+use mathlib.Core.Bool.{Bool, not}
 use mathlib.Core.List.{List, [], _∷_, _++_, List·Memᴰ as Mem, List·Memᴰ·head as head, List·Memᴰ·tail as tail, List·Memᴰ·cases-cons as mem-cons, List·Memᴰ·not-nil as mem-nil, List·Memᴰ·append-cases as mem-append, Memᴰ·append-left as mem-left, Memᴰ·append-right as mem-right, Memᴰ·cast as mem-cast}
 use lib.Dec.{T}
 use lib.ListN.{length, length-append}

@@ -10,8 +10,7 @@ use lib.Dec.{T, eqb, ltb}
 use lib.ListN.{length}
 use Rattle.model.specs.Lists.{run, ascending, keys, values, get}
 use Rattle.model.specs.Cells.{Cell, same}
-use Rattle.model.specs.Occupancy.{occupied}
-use Rattle.model.specs.Paths.{Path, PathTo, stop, step}
+use Rattle.model.specs.Paths.{Path, stop, step}
 use Rattle.model.specs.Groups.{Group, Corner, members, groupOf, cornerAt, lower, higher}
 use Rattle.model.specs.Update.{State}
 use Rattle.model.specs.Questions.{idOf, idList, groupBy}
@@ -19,7 +18,7 @@ use Rattle.model.specs.Consistent.{consistent}
 use Rattle.model.specs.Laws.Orders.{cells, numbers}
 use Rattle.model.specs.Laws.Tables.{At, at-mem, asc-fair}
 use Rattle.model.specs.Laws.Values.{value-in}
-use Rattle.model.specs.Laws.Fine.{members-in, members-out}
+use Rattle.model.specs.Laws.Fine.{members-out}
 use Rattle.model.specs.Laws.Touching.{Touching}
 use Rattle.model.specs.Laws.Records.{shownOf, members-cons, records-keys, records-get}
 use Rattle.model.specs.Laws.Consistency.{Ok, ok-out, ids-asc}
@@ -74,7 +73,8 @@ module _ (R : ℕ → ℕ → Type 0) (pick : ℕ → ℕ → ℕ) (self : (m : 
   extreme c cs =
       record {
         bound = λ d m. ⊎-elim (λ e. subst (λ x. R (picked (f c) cs) (f x)) (sym e) (picked-first cs (f c))) (λ k. picked-each cs (f c) d k) (mem-cons m);
-        taken = ⊎-elim (λ e. (c, head refl, sym e)) (λ r. (r .0, tail (r .1), r .2)) (picked-one cs (f c)) }
+        taken = ⊎-elim (λ e. (c, head refl, sym e)) (λ r. (r .0, tail (r .1), r .2)) (picked-one cs (f c));
+      }
 
 le-or : (m n : ℕ) → (m ≤ n) ⊎ (n ≤ m)
 le-or zero n = inl (omega arith)
@@ -116,7 +116,8 @@ module _ (c : Cell) (cs : List Cell) where
         low-z = low (λ p. p .z) (λ d. d .z) (λ p d. refl) refl;
         high-x = high (λ p. p .x) (λ d. d .x) (λ p d. refl) refl;
         high-y = high (λ p. p .y) (λ d. d .y) (λ p d. refl) refl;
-        high-z = high (λ p. p .z) (λ d. d .z) (λ p d. refl) refl }
+        high-z = high (λ p. p .z) (λ d. d .z) (λ p d. refl) refl;
+      }
 
 module _ (touch : Cell → Cell → Bool) (laws : Touching touch) where
   -- A path stays on its grid.
@@ -136,13 +137,15 @@ module _ (touch : Cell → Cell → Bool) (laws : Touching touch) where
     pub corners-exact : (a : Cell) (g : ℕ) → idOf s a ≡ some g → (r : Group) × (groupBy s g ≡ some r) × Shows (members (s .groups .ids) g) r
     corners-exact a g e =
         let is : At same (s .groups .ids) a g = record { is = e } in
-        let m = members-cons (s .groups .ids) (value-in (at-mem cells (s .groups .ids) is)) in
-        (groupOf (m .0) (m .1),
+        let m = members-cons (s .groups .ids) (value-in (at-mem cells (s .groups .ids) is)) in (
+          groupOf (m .0) (m .1),
           ap (λ (l : List (ℕ × Group)). get eqb l g) (ok .records-are) ∙ records-get (s .groups .ids) g ∙ ap shownOf (m .2),
-          subst (λ (l : List Cell). Shows l (groupOf (m .0) (m .1))) (sym (m .2)) (shows (m .0) (m .1) (λ d k. one (m .0) (m .1) (m .2) d k)))
+          subst (λ (l : List Cell). Shows l (groupOf (m .0) (m .1))) (sym (m .2)) (shows (m .0) (m .1) (λ d k. one (m .0) (m .1) (m .2) d k)),
+        )
       where
         fair : (c : Cell) → Mem c (members (s .groups .ids) g) → At same (s .groups .ids) c g
         fair c k = members-out (s .groups .ids) g (asc-fair cells (s .groups .ids) (ids-asc touch s ok)) k
+
         one : (c : Cell) (cs : List Cell) → members (s .groups .ids) g ≡ c ∷ cs → (d : Cell) → Mem d (c ∷ cs) → d .grid ≡ c .grid
         one c cs f d k =
             let p = fair d (subst (λ l. Mem d l) (sym f) k) in

@@ -33,7 +33,8 @@ flood-exact touch o ok seed h =
     record {
       starts = whole-first touch o ok seed h;
       once = whole-once touch o ok seed;
-      joined = λ a. (λ m. whole-out touch o ok seed h m .1, λ w. whole-in touch o ok seed h w) }
+      joined = λ a. (λ m. whole-out touch o ok seed h m .1, λ w. whole-in touch o ok seed h w);
+    }
 
 -- An unoccupied seed gives nothing, and that was all of it.
 pub flood-nothing : (o : Occupancy) (seed : Cell) (depth : Depth) (budget : ℕ) → (Mem seed (occupied o) → ⊥) → flood o seed depth budget ≡ record { cells = []; number = 0; wasAll = true }
@@ -73,9 +74,10 @@ module _ (o : Occupancy) (seed : Cell) (depth : Depth) (budget : ℕ) where
 
   -- That was all of it exactly when the cells given are all that the depth leaves.
   pub flood-all-cells : T (flood o seed depth budget .wasAll) ↔ (flood o seed depth budget .cells ≡ cutAt depth seed (wholeFlood o seed))
-  flood-all-cells =
-      (λ t. take-all budget (cutAt depth seed (wholeFlood o seed)) (flood-all .0 t),
-        λ e. flood-all .1 (omega (arith, flood-budget, ap length e)))
+  flood-all-cells = (
+    λ t. take-all budget (cutAt depth seed (wholeFlood o seed)) (flood-all .0 t),
+    λ e. flood-all .1 (omega (arith, flood-budget, ap length e)),
+  )
 
   -- No more cells are given than are occupied.
   pub flood-occupied : (touch : Cell → Cell → Bool) → Sound touch o → flood o seed depth budget .number ≤ length (occupied o)
@@ -104,12 +106,14 @@ module _ (o : Occupancy) (seed : Cell) (d : ℕ) where
 
 -- The depth is one-sided: a cell is within it exactly if none of its coordinates minus the seed's is above d, signed.
 pub depth-one-sided : (d : ℕ) (seed c : Cell) → T (within d seed c) ↔ ((c .x + bias ≤ seed .x + d) × (c .y + bias ≤ seed .y + d) × (c .z + bias ≤ seed .z + d))
-depth-one-sided d seed c =
-    (λ t.
-      let r : T (atMost d (seed .y) (c .y) && atMost d (seed .z) (c .z)) = and-snd (atMost d (seed .x) (c .x)) _ t in
-      (leb→le (c .x + bias) (seed .x + d) (and-fst (atMost d (seed .x) (c .x)) _ t),
+depth-one-sided d seed c = (
+  λ t.
+      let r : T (atMost d (seed .y) (c .y) && atMost d (seed .z) (c .z)) = and-snd (atMost d (seed .x) (c .x)) _ t in (
+        leb→le (c .x + bias) (seed .x + d) (and-fst (atMost d (seed .x) (c .x)) _ t),
         leb→le (c .y + bias) (seed .y + d) (and-fst (atMost d (seed .y) (c .y)) _ r),
-        leb→le (c .z + bias) (seed .z + d) (and-snd (atMost d (seed .y) (c .y)) _ r)),
-      λ h.
-        and-both (atMost d (seed .x) (c .x)) _ (le→leb (c .x + bias) (seed .x + d) (h .0))
-        (and-both (atMost d (seed .y) (c .y)) _ (le→leb (c .y + bias) (seed .y + d) (h .1)) (le→leb (c .z + bias) (seed .z + d) (h .2))))
+        leb→le (c .z + bias) (seed .z + d) (and-snd (atMost d (seed .y) (c .y)) _ r),
+      ),
+  λ h.
+      and-both (atMost d (seed .x) (c .x)) _ (le→leb (c .x + bias) (seed .x + d) (h .0))
+      (and-both (atMost d (seed .y) (c .y)) _ (le→leb (c .y + bias) (seed .y + d) (h .1)) (le→leb (c .z + bias) (seed .z + d) (h .2))),
+)

@@ -1,13 +1,12 @@
 -- Two occupied cells share an id exactly when a path of touching occupied cells joins them.
 use Prim.Native.Nat.{ℕ}
-use mathlib.Core.Path.{_≡_, refl, sym, _∙_, ap, subst}
+use mathlib.Core.Path.{_≡_, sym, subst}
 use mathlib.Core.Logic.{_↔_}
 use mathlib.Core.Bool.{Bool}
-use mathlib.Core.List.{List, [], _∷_, List·Memᴰ as Mem}
+use mathlib.Core.List.{List, List·Memᴰ as Mem}
 use mathlib.Core.Option.{some}
 use lib.Dec.{T}
-use Rattle.model.specs.Lists.{keys}
-use Rattle.model.specs.Cells.{Cell, same, Offsets, all26, holdsOpposites, touchBy}
+use Rattle.model.specs.Cells.{Cell, Offsets, all26, holdsOpposites, touchBy}
 use Rattle.model.specs.Occupancy.{occupied}
 use Rattle.model.specs.Paths.{Joined}
 use Rattle.model.specs.Update.{State}
@@ -15,7 +14,7 @@ use Rattle.model.specs.Questions.{idOf}
 use Rattle.model.specs.Consistent.{consistent}
 use Rattle.model.specs.Runs.{Reached}
 use Rattle.model.specs.Laws.Orders.{cells}
-use Rattle.model.specs.Laws.Tables.{At, at-mem, at-key, key-at}
+use Rattle.model.specs.Laws.Tables.{at-mem, at-key, key-at}
 use Rattle.model.specs.Laws.Touching.{Touching, touching-by}
 use Rattle.model.specs.Laws.Consistency.{Ok, ok-out}
 use Rattle.model.specs.Theorems.StaysConsistent.{consistent-reached}
@@ -36,10 +35,12 @@ module _ (touch : Cell → Cell → Bool) (laws : Touching touch) where
       record {
         has-id = λ a m. let d = key-at cells ids (subst (λ l. Mem a l) (sym (ok .id-cells)) m) in (d .0, d .1 .is);
         no-other = λ a g e. subst (λ l. Mem a l) (ok .id-cells) (at-key cells ids (record { is = e }));
-        shared = λ a b g h e f. subst (λ l. (g ≡ h) ↔ Joined touch l a b) (ok .id-cells) (ok .shared (a, g) (b, h) (at-mem cells ids (record { is = e })) (at-mem cells ids (record { is = f }))) }
+        shared = λ a b g h e f. subst (λ l. (g ≡ h) ↔ Joined touch l a b) (ok .id-cells) (ok .shared (a, g) (b, h) (at-mem cells ids (record { is = e })) (at-mem cells ids (record { is = f })));
+      }
     where
       ok : Ok touch s
       ok = ok-out touch (laws .flip) s t
+
       ids : List (Cell × ℕ)
       ids = s .groups .ids
 

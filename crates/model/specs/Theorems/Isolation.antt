@@ -48,14 +48,15 @@ module _ (touch : Cell → Cell → Bool) (laws : Touching touch) (grid : ℕ) w
         right = accepted-steady touch laws t (a .right) d;
         views = views′;
         sim =
-          regroups-agree touch (laws .flip) (onGrid grid) (stays-on laws grid)
-          (playBatch touch b (s .occupancy) .newlyOccupied) (playBatch touch b (s .occupancy) .newlyEmptied)
-          (playBatch touch d (t .occupancy) .newlyOccupied) (playBatch touch d (t .occupancy) .newlyEmptied)
-          (s .groups) (t .groups) (a .sim) (a .left .fine) (a .right .fine)
-          (ids-asc touch s (a .left)) (ids-asc touch t (a .right))
-          (opened-asc touch laws s (a .left) b) (opened-asc touch laws t (a .right) d)
-          (opened-free touch laws s (a .left) b) (opened-free touch laws t (a .right) d)
-          (ap (λ (o : Occupancy). o .newlyOccupied) views′) (ap (λ (o : Occupancy). o .newlyEmptied) views′) }
+            regroups-agree touch (laws .flip) (onGrid grid) (stays-on laws grid)
+            (playBatch touch b (s .occupancy) .newlyOccupied) (playBatch touch b (s .occupancy) .newlyEmptied)
+            (playBatch touch d (t .occupancy) .newlyOccupied) (playBatch touch d (t .occupancy) .newlyEmptied)
+            (s .groups) (t .groups) (a .sim) (a .left .fine) (a .right .fine)
+            (ids-asc touch s (a .left)) (ids-asc touch t (a .right))
+            (opened-asc touch laws s (a .left) b) (opened-asc touch laws t (a .right) d)
+            (opened-free touch laws s (a .left) b) (opened-free touch laws t (a .right) d)
+            (ap (λ (o : Occupancy). o .newlyOccupied) views′) (ap (λ (o : Occupancy). o .newlyEmptied) views′);
+      }
     where
       views′ : viewed grid (playBatch touch b (s .occupancy)) ≡ viewed grid (playBatch touch d (t .occupancy))
       views′ = batches-agree touch laws grid b d (s .occupancy) (t .occupancy) (a .left .sound) (a .right .sound) (a .views) e
@@ -67,7 +68,8 @@ module _ (touch : Cell → Cell → Bool) (laws : Touching touch) (grid : ℕ) w
         left = fresh-steady touch first;
         right = fresh-steady touch first′;
         views = refl;
-        sim = record { f = λ g. g; L = λ g. ⊥; same = refl; uses = λ q m. mem-nil m; low = λ g l. absurd l; low′ = λ g l. absurd l; mono = λ g h l k. absurd l } }
+        sim = record { f = λ g. g; L = λ g. ⊥; same = refl; uses = λ q m. mem-nil m; low = λ g l. absurd l; low′ = λ g l. absurd l; mono = λ g h l k. absurd l };
+      }
   agree (next {s} {t} b d r e f h) =
       subst (λ x. Agree touch grid x (update touch t d .1)) (sym (update-accepted touch s b e .1))
       (subst (λ x. Agree touch grid (accepted touch s b) x) (sym (update-accepted touch t d f .1)) (accepted-agree s t b d (agree r) h))
@@ -95,7 +97,7 @@ module _ (touch : Cell → Cell → Bool) (laws : Touching touch) (grid : ℕ) w
         there =
             r .right .fine .fair (a, r .sim .f g)
             (keep-out (λ (q : Cell × ℕ). onGrid grid (q .0)) (t .groups .ids)
-              (subst (λ i. Mem (a, r .sim .f g) i) (sym (r .sim .same)) (each-in (λ (q : Cell × ℕ). (q .0, r .sim .f (q .1))) (live a g u p))) .0)
+            (subst (λ i. Mem (a, r .sim .f g) i) (sym (r .sim .same)) (each-in (λ (q : Cell × ℕ). (q .0, r .sim .f (q .1))) (live a g u p))) .0)
 
     -- Runs that agree show the same of the grid.
     same-on : SameOn grid s t
@@ -106,16 +108,17 @@ module _ (touch : Cell → Cell → Bool) (laws : Touching touch) (grid : ℕ) w
           newlyOccupied = ap (λ (o : Occupancy). o .newlyOccupied) (r .views);
           newlyEmptied = ap (λ (o : Occupancy). o .newlyEmptied) (r .views);
           floods = λ seed u depth budget.
-            flood-on touch laws grid (s .occupancy) (r .left .sound) seed u depth budget
-            ∙ ap (λ o. flood o seed depth budget) (r .views)
-            ∙ sym (flood-on touch laws grid (t .occupancy) (r .right .sound) seed u depth budget);
+              flood-on touch laws grid (s .occupancy) (r .left .sound) seed u depth budget
+              ∙ ap (λ o. flood o seed depth budget) (r .views)
+              ∙ sym (flood-on touch laws grid (t .occupancy) (r .right .sound) seed u depth budget);
           name = r .sim .f;
           ids = r .sim .same;
           inOrder = λ a b g h u v p q. r .sim .mono g h (r .sim .uses (a, g) (live a g u p)) (r .sim .uses (b, h) (live b h v q));
           groups = λ a g u p.
-            ap (λ l. get eqb l (r .sim .f g)) (r .right .shown) ∙ records-get (t .groups .ids) (r .sim .f g)
-            ∙ ap shownOf (members-same a g u p)
-            ∙ sym (ap (λ l. get eqb l g) (r .left .shown) ∙ records-get (s .groups .ids) g) }
+              ap (λ l. get eqb l (r .sim .f g)) (r .right .shown) ∙ records-get (t .groups .ids) (r .sim .f g)
+              ∙ ap shownOf (members-same a g u p)
+              ∙ sym (ap (λ l. get eqb l g) (r .left .shown) ∙ records-get (s .groups .ids) g);
+        }
 
   -- Runs that are alike on a grid show the same of it.
   pub isolation : {s t : State} → Alike touch grid s t → SameOn grid s t
@@ -125,8 +128,8 @@ module _ (touch : Cell → Cell → Bool) (laws : Touching touch) (grid : ℕ) w
   pub whereIs-same : {s t : State} → Alike touch grid s t → (e : ℕ) (c : Cell) → T (onGrid grid c) → whereIs s e ≡ some c → whereIs s e ≡ whereIs t e
   whereIs-same {s} {t} r e c u p =
       p ∙ sym (asc-mem-at numbers (t .occupancy .entities) (agree r .right .sound .asc)
-        (keep-out (λ (q : ℕ × Cell). onGrid grid (q .1)) (t .occupancy .entities)
-          (subst (λ l. Mem (e, c) l) (isolation r .entities) (keep-in (λ (q : ℕ × Cell). onGrid grid (q .1)) (at-mem numbers (s .occupancy .entities) (record { is = p })) u)) .0) .is)
+      (keep-out (λ (q : ℕ × Cell). onGrid grid (q .1)) (t .occupancy .entities)
+      (subst (λ l. Mem (e, c) l) (isolation r .entities) (keep-in (λ (q : ℕ × Cell). onGrid grid (q .1)) (at-mem numbers (s .occupancy .entities) (record { is = p })) u)) .0) .is)
 
 -- The lookup in a renamed table.
 get-renamed : (f : ℕ → ℕ) (ids : Ids) (c : Cell) → get same (change (λ d g. f g) ids) c ≡ renamed f (get same ids c)

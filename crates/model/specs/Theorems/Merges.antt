@@ -45,7 +45,7 @@ module _ (touch : Cell → Cell → Bool) (s : Groups) (c : Cell) (g : ℕ) (gs 
   merge-only {a} p =
       let r = merge-was (keeper s c g gs) (g ∷ gs) (joinedTo s c g) (subst (λ l. At same (joinFound touch s c l .ids) a (keeper s c g gs)) is p) in
       let found : Mem (r .0) (g ∷ gs) =
-        ⊎-elim (λ m. m) (λ n. subst (λ h. Mem h (g ∷ gs)) (r .2 ∙ merged-out (keeper s c g gs) (g ∷ gs) n) (largest-in (joinedTo s c g) g gs)) (mem-or numbers (r .0) (g ∷ gs)) in
+      ⊎-elim (λ m. m) (λ n. subst (λ h. Mem h (g ∷ gs)) (r .2 ∙ merged-out (keeper s c g gs) (g ∷ gs) n) (largest-in (joinedTo s c g) g gs)) (mem-or numbers (r .0) (g ∷ gs)) in
       ⊎-elim (λ e. inl (e .0)) (λ q. inr (r .0, found, q .1)) (at-put-split cells (s .ids) c g (r .1))
 
   -- The group that keeps its id is one of those found.

@@ -42,7 +42,8 @@ module _ (touch : Cell → Cell → Bool) (flip : (a b : Cell) → T (touch a b)
           opened = net .opened;
           emptied = net .emptied;
           opened-ascends = subst (Asc below) (sym (net .opened)) (keep-asc _ _ (occupied-asc touch _ (batch-sound touch flip apart b o ok)));
-          emptied-ascends = subst (Asc below) (sym (net .emptied)) (keep-asc _ _ (occupied-asc touch o ok)) }
+          emptied-ascends = subst (Asc below) (sym (net .emptied)) (keep-asc _ _ (occupied-asc touch o ok));
+        }
 
     -- After a batch the list of each occupied cell holds each touching occupied cell once and no other.
     pub lists-exact : (c : Cell) → Mem c (occupied (playBatch touch b o)) → Exact touch (occupied (playBatch touch b o)) c (listOf (playBatch touch b o .lists) c)
@@ -50,9 +51,10 @@ module _ (touch : Cell → Cell → Bool) (flip : (a b : Cell) → T (touch a b)
 
     -- There are no more newly occupied cells than occupied ones, and no more newly emptied cells than were occupied.
     pub net-sizes : (length (playBatch touch b o .newlyOccupied) ≤ length (occupied (playBatch touch b o))) × (length (playBatch touch b o .newlyEmptied) ≤ length (occupied o))
-    net-sizes =
-        (subst (λ l. length l ≤ length (occupied (playBatch touch b o))) (sym (net-exact .opened)) (keep-shorter _ (occupied (playBatch touch b o))),
-          subst (λ l. length l ≤ length (occupied o)) (sym (net-exact .emptied)) (keep-shorter _ (occupied o)))
+    net-sizes = (
+      subst (λ l. length l ≤ length (occupied (playBatch touch b o))) (sym (net-exact .opened)) (keep-shorter _ (occupied (playBatch touch b o))),
+      subst (λ l. length l ≤ length (occupied o)) (sym (net-exact .emptied)) (keep-shorter _ (occupied o)),
+    )
 
 -- Neither net list is longer than the batch has events.
 pub net-events : (touch : Cell → Cell → Bool) (b : Batch) (o : Occupancy) → (length (playBatch touch b o .newlyOccupied) ≤ length (events b)) × (length (playBatch touch b o .newlyEmptied) ≤ length (events b))

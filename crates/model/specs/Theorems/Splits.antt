@@ -58,18 +58,20 @@ module _ (touch : Cell → Cell → Bool) (s : Groups) (g : ℕ) (p : List Cell)
   module _ (flip : (a b : Cell) → T (touch a b) → T (touch b a)) (gs : List ℕ) (ok : Fine touch (g ∷ gs) s) where
     -- The cells that keep the id of a group that is split are exactly those of its largest piece.
     pub largest-keeps : (a : Cell) → At same (split touch s g .ids) a g ↔ Mem a (largestPiece touch p ps .0)
-    largest-keeps a =
-        ( (λ q. in-largest touch flip s g gs ok p ps is (subst (λ (t : Groups). At same (t .ids) a g) split-is q))
-        , (λ m. subst (λ (t : Groups). At same (t .ids) a g) (sym split-is)
-            (takes-other touch (takers touch p ps) s (members-out (s .ids) g (ok .fair) (in-group (largest-of touch p ps) m))
-              (λ q k j. largest-pairs touch (λ x y f b i l. f b l i) p ps all-apart (sort-out (smaller touch) (largestPiece touch p ps .1) k) a m j))))
+    largest-keeps a = (
+      (λ q. in-largest touch flip s g gs ok p ps is (subst (λ (t : Groups). At same (t .ids) a g) split-is q)),
+      (λ m. subst (λ (t : Groups). At same (t .ids) a g) (sym split-is)
+          (takes-other touch (takers touch p ps) s (members-out (s .ids) g (ok .fair) (in-group (largest-of touch p ps) m))
+          (λ q k j. largest-pairs touch (λ x y f b i l. f b l i) p ps all-apart (sort-out (smaller touch) (largestPiece touch p ps .1) k) a m j))),
+    )
 
     -- The cells that have the k-th new id are exactly those of the k-th piece that takes one.
     pub new-ids : {q : List Cell} {k : ℕ} → Nth q (takers touch p ps) k → (a : Cell) → At same (split touch s g .ids) a (s .next + k) ↔ Mem a q
-    new-ids {q} {k} n a =
-        ( (λ r. nth-takes-only touch s n (λ b h d. ok .under d) (subst (λ (t : Groups). At same (t .ids) a (s .next + k)) split-is r))
-        , (λ m. subst (λ (t : Groups). At same (t .ids) a (s .next + k)) (sym split-is)
-            (nth-takes touch s n (takers-apart touch p ps all-apart) (g, members-out (s .ids) g (ok .fair) (in-group (takers-out touch p ps (nth-mem n)) m)) m)))
+    new-ids {q} {k} n a = (
+      (λ r. nth-takes-only touch s n (λ b h d. ok .under d) (subst (λ (t : Groups). At same (t .ids) a (s .next + k)) split-is r)),
+      (λ m. subst (λ (t : Groups). At same (t .ids) a (s .next + k)) (sym split-is)
+          (nth-takes touch s n (takers-apart touch p ps all-apart) (g, members-out (s .ids) g (ok .fair) (in-group (takers-out touch p ps (nth-mem n)) m)) m)),
+    )
 
     -- A split changes the id of no cell of another group.
     pub split-elsewhere : {a : Cell} {h : ℕ} → At same (s .ids) a h → (h ≡ g → ⊥) → At same (split touch s g .ids) a h

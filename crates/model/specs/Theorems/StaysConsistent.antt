@@ -1,30 +1,22 @@
 -- A fresh state is consistent, and so is what an accepted update leaves of a consistent state.
-use Prim.Native.Nat.{ℕ, _≤_, _<_}
+use Prim.Native.Nat.{ℕ, _≤_}
 use native.Mathlib.Omega.{arith}
-use mathlib.Core.Path.{_≡_, refl, sym, _∙_, ap, subst}
-use mathlib.Core.Logic.{_⊎_, inl, inr, ⊎-elim}
+use mathlib.Core.Path.{_≡_, sym, subst}
 use mathlib.Core.Bool.{Bool, not}
-use mathlib.Core.List.{List, [], _∷_, List·Memᴰ as Mem}
+use mathlib.Core.List.{List·Memᴰ as Mem}
 use lib.Dec.{T}
 use lib.ListN.{length}
-use Rattle.model.specs.Lists.{keep, all, has, keys, values}
-use Rattle.model.specs.Cells.{Cell, same, below, cellInRange, Offsets, all26, holdsOpposites, touchBy}
+use Rattle.model.specs.Lists.{all, has}
+use Rattle.model.specs.Cells.{Cell, same, cellInRange, Offsets, all26, holdsOpposites, touchBy}
 use Rattle.model.specs.Occupancy.{Occupancy, Batch, events, occupied, startBatch, playBatch}
-use Rattle.model.specs.Groups.{Groups, regroup}
-use Rattle.model.specs.Update.{State, fresh, mostEntities, mostCells, accepted, refusal, update}
+use Rattle.model.specs.Update.{State, fresh, accepted, update}
 use Rattle.model.specs.Consistent.{consistent}
 use Rattle.model.specs.Runs.{Reached, start, next}
 use Rattle.model.specs.Laws.Orders.{cells}
-use Rattle.model.specs.Laws.Members.{all-out, keep-in, keep-out, has-of, of-has, hasnt-of, of-hasnt, mem-or}
-use Rattle.model.specs.Laws.Sorted.{Asc, asc-equal, keep-asc}
-use Rattle.model.specs.Laws.Tables.{Free, at-key, key-at, free-key, asc-fair}
-use Rattle.model.specs.Laws.Values.{value-in, value-out}
+use Rattle.model.specs.Laws.Members.{all-out, keep-out, of-hasnt}
+use Rattle.model.specs.Laws.Values.{value-out}
 use Rattle.model.specs.Laws.Touching.{Touching, touching-by}
-use Rattle.model.specs.Laws.Occupied.{Sound, batch-sound, occupied-asc}
 use Rattle.model.specs.Laws.Net.{Inside}
-use Rattle.model.specs.Laws.Fine.{Fine}
-use Rattle.model.specs.Laws.Keys.{addAll, addAll-old, addAll-new, addAll-out, keys-regroup, regroup-asc}
-use Rattle.model.specs.Laws.Regroup.{regroup-fine}
 use Rattle.model.specs.Laws.Accepted.{Accepts, accepts, update-accepted, Within, unbroken-within}
 use Rattle.model.specs.Laws.Steady.{Steady, accepted-steady}
 use Rattle.model.specs.Laws.Consistency.{Ok, ok-in, ok-out, steady-of, shared-of}
@@ -89,7 +81,8 @@ module _ (touch : Cell → Cell → Bool) (laws : Touching touch) where
           few-occupied = let w = within′ .cells in let z = sizes .0 in omega arith;
           few-emptied = let w = ok .few-cells in let z = sizes .1 in omega arith;
           in-occupied = λ c m. opened-out m .0;
-          not-emptied = λ c m. emptied-out m .1 }
+          not-emptied = λ c m. emptied-out m .1;
+        }
 
   -- An accepted update of a consistent state is consistent.
   pub consistent-update : (s : State) (b : Batch) → T (consistent touch s) → update touch s b .0 ≡ 0 → T (consistent touch (update touch s b .1))

@@ -1,24 +1,22 @@
 -- Ids over updates: below the next id, never given again, at most 2,048 taken.
 use Prim.Native.Nat.{ℕ, _+_, _≤_, _<_}
 use native.Mathlib.Omega.{arith}
-use mathlib.Core.Path.{_≡_, refl, sym, _∙_, ap, subst}
+use mathlib.Core.Path.{_≡_, sym, ap, subst}
 use mathlib.Core.Bool.{Bool}
-use mathlib.Core.List.{List, [], _∷_, List·Memᴰ as Mem}
 use mathlib.Core.Option.{some}
 use lib.Dec.{T}
 use lib.ListN.{length}
-use Rattle.model.specs.Lists.{keys}
-use Rattle.model.specs.Cells.{Cell, same}
-use Rattle.model.specs.Occupancy.{Occupancy, Batch, occupied, playBatch}
-use Rattle.model.specs.Update.{State, lastNext, accepted, update}
+use Rattle.model.specs.Cells.{Cell}
+use Rattle.model.specs.Occupancy.{Batch, playBatch}
+use Rattle.model.specs.Update.{State, accepted, update}
 use Rattle.model.specs.Questions.{idOf}
 use Rattle.model.specs.Consistent.{consistent}
 use Rattle.model.specs.Laws.Orders.{cells}
-use Rattle.model.specs.Laws.Tables.{At, at-mem, asc-fair, keys-length}
+use Rattle.model.specs.Laws.Tables.{at-mem, asc-fair, keys-length}
 use Rattle.model.specs.Laws.Values.{value-in}
 use Rattle.model.specs.Laws.Touching.{Touching}
 use Rattle.model.specs.Laws.Accepted.{Accepts, accepts, update-accepted}
-use Rattle.model.specs.Laws.Steady.{Steady, opened-asc, opened-free}
+use Rattle.model.specs.Laws.Steady.{opened-asc, opened-free}
 use Rattle.model.specs.Laws.Consistency.{Ok, ok-out, ids-asc, fine-of, steady-of}
 use Rattle.model.specs.Theorems.StaysConsistent.{accepted-ok}
 use Rattle.model.specs.Theorems.Ids.{Later, ids-not-reused, ids-enough-2048}
