@@ -6,10 +6,6 @@ use lib.Seq.{slice}
 use Rattle.model.specs.Update.{State}
 use Rattle.layout.specs.Rows.{entitiesImage, cellsImage, netImage, idsImage, groupsImage, entitiesIn, cellsIn, netIn, idsIn, groupsIn}
 
--- The header: how many rows each table has, the next id, and a zero.
-unfoldable pub headerLen : ℕ
-headerLen = 8
-
 -- 4,096 entities of 5 words.
 unfoldable pub entitiesLen : ℕ
 entitiesLen = 20480
@@ -119,8 +115,6 @@ decode w =
         entities = entitiesIn (entityCount w) (entityWords w);
         lists = cellsIn (cellCount w) (cellWords w);
         newlyOccupied = netIn (occupiedCount w) (occupiedWords w);
-        newlyEmptied = netIn (emptiedCount w) (emptiedWords w);
-      };
+        newlyEmptied = netIn (emptiedCount w) (emptiedWords w) };
       groups = record { ids = idsIn (idCount w) (idWords w); next = nextId w };
-      records = groupsIn (groupCount w) (groupWords w);
-    }
+      records = groupsIn (groupCount w) (groupWords w) }
