@@ -1,0 +1,12 @@
+pub mod Rows
+pub mod Fronts
+pub mod Standing
+pub mod Lines
+pub mod Numbers
+pub mod Listing
+pub mod Reads
+pub mod Pushes
+pub mod Answers
+pub mod Filling
+pub mod Meets
+pub mod Examples
