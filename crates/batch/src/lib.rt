@@ -1,0 +1,81 @@
+// A batch in words: the removals first, one word each, then the moves, five words each: entity, grid, x, y, z.
+use component::Cell;
+use layout::state_len;
+ghost use mathlib.Core.Path.{_≡_};
+ghost use mathlib.Core.Bool.{true, false, not};
+ghost use Prim.Native.Nat.{ℕ, _+_, _*_, _≤_, _<_};
+ghost use lib.ListN.{length, drop};
+ghost use lib.Dec.{ltb};
+ghost use Rattle.model.specs.Lists.{all};
+ghost use Rattle.model.specs.Cells.{Cell as CellOf, cellInRange};
+ghost use Rattle.batch.specs.Words.{storedWord, moveAt, movesIn, batchOf, tooShort, early};
+
+// A coordinate's word in stored form.
+pub fn stored_word(n: u64) -> u64
+    ensures { λ r. ⌜ r ≡ storedWord n ⌝ }
+{
+    std::num::wrapping_add_u64(n, 2_147_483_648)
+}
+
+// The cell of the move whose words stand at at.
+pub fn move_cell(batch: &[u64], at: usize) -> Cell
+    requires { ⌜ at + 5 ≤ length (now batch) ⌝ }
+    ensures { λ r. ⌜ r ≡ moveAt (now (batch .entry)) at .1 ⌝ }
+{
+    Cell {
+        grid: batch[at + 1],
+        z: stored_word(batch[at + 4]),
+        y: stored_word(batch[at + 3]),
+        x: stored_word(batch[at + 2]),
+    }
+}
+
+// Whether the words are too few for so many events; a count so large that the words needed pass 2^64 is one.
+fn lacks_words(len: usize, removals: u64, moves: u64) -> bool
+    ensures { λ r. ⌜ r ≡ ltb len (removals + 5 * moves) ⌝ }
+{
+    let n = len as u64;
+    if n < removals {
+        return true;
+    }
+    (n - removals) / 5 < moves
+}
+
+// 1: whether the state's words are too few, or the batch's.
+pub fn too_short(state: &[u64], batch: &[u64], removals: u64, moves: u64) -> bool
+    ensures { λ r. ⌜ r ≡ tooShort (now (state .entry)) (now (batch .entry)) removals moves ⌝ }
+{
+    !(state_len() <= state.len()) | lacks_words(batch.len(), removals, moves)
+}
+
+// Whether every move goes to a cell in range.
+pub fn moves_in_range(batch: &[u64], from: usize, moves: usize) -> bool
+    requires { ⌜ from + 5 * moves ≤ length (now batch) ⌝ }
+    ensures { λ r. ⌜ r ≡ all (λ (m : ℕ × CellOf). cellInRange (m .1)) (movesIn moves (drop from (now (batch .entry)))) ⌝ }
+{
+    let mut i = 0;
+    while i < moves {
+        if !component::stored_in_range(move_cell(batch, from + 5 * i)) {
+            return false;
+        }
+        i += 1;
+    }
+    true
+}
+
+// 3, 4 and 5 in that order: too many events, a coordinate out of range, too few ids left; else 0.
+pub fn early_number(next: u64, batch: &[u64], removals: usize, moves: usize) -> u64
+    requires { ⌜ removals + 5 * moves ≤ length (now batch) ⌝ }
+    ensures { λ r. ⌜ r ≡ early next (batchOf (now (batch .entry)) removals moves) ⌝ }
+{
+    if removals + moves > 1024 {
+        return 3;
+    }
+    if !moves_in_range(batch, removals, moves) {
+        return 4;
+    }
+    if next > 18446744073709549567 {
+        return 5;
+    }
+    0
+}

@@ -1,0 +1,7 @@
+pub mod RowWords
+pub mod Steps
+pub mod Entries
+pub mod Lookups
+pub mod Passing
+pub mod Playing
+pub mod Tallying

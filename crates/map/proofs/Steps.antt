@@ -1,0 +1,159 @@
+-- The ways out of the functions on the rows of tables.
+use Prim.Native.Nat.{ℕ, suc, _+_, _-_, _*_, _≤_}
+use native.Mathlib.Omega.{arith}
+use mathlib.Core.Path.{_≡_, refl, sym, ap, _∙_}
+use mathlib.Core.Bool.{Bool, true, false, cond, not}
+use mathlib.Core.List.{List, [], _∷_, _++_, List·Memᴰ as Mem}
+use mathlib.Core.Option.{some}
+use lib.Dec.{eqb}
+use lib.ListN.{length, take, drop, replicate, length-append, length-drop, length-replicate}
+use lib.Seq.{length-take-le, drop-drop, take-at, drop-at, getD-take}
+use Rattle.component.specs.Order.{same, below}
+use Rattle.component.specs.declared.Cell.{Cell}
+use Rattle.model.specs.Lists.{keep, has, keys, put, dropKey, change}
+use Rattle.model.specs.Laws.Tests.{true-of, false-of, T-true}
+use Rattle.model.specs.Laws.Orders.{cells}
+use Rattle.model.specs.Laws.Members.{has-of, hasnt-of, of-hasnt, keep-shorter}
+use Rattle.model.specs.Laws.Tables.{At, free-of, at-key, key-free, drop-free, asc-fair, free-key}
+use Rattle.table.specs.declared.Place.the-variants.{Found, Missing}
+use Rattle.table.specs.Moves.{over}
+use Rattle.table.specs.Rows.{cell, cellAt, table4, stored4, isTable4, placeOf}
+use Rattle.table.specs.Kinds.{cell-lawful}
+use Rattle.table.specs.Words.{row-at, key-at, row-fits}
+use Rattle.table.specs.Images.{table-facts}
+use Rattle.table.specs.Answers.{found-below, found-is, found-rest, missing-none}
+use Rattle.table.specs.Next.{put-next, drop-next}
+use Rattle.table.proofs.Ways.{put-found}
+use Rattle.map.specs.Told.{Shows, appended, stripped, revised, revisedRow, toldOne}
+use Rattle.map.specs.TableLaws.{put-is-change, change-missing}
+
+-- A part that was lent and came back stands over what it was.
+pub part-over : (g : List ℕ → List ℕ) (s y : List ℕ) (a m w : ℕ) → m ≡ w → a + w ≤ length s → length y ≡ length (take m (drop a s)) → y ≡ g (take m (drop a s))
+    → take a s ++ (y ++ drop m (drop a s)) ≡ over s a (g (take w (drop a s)))
+unfolding over
+part-over g s y a m w q h l e =
+    let f : y ≡ g (take w (drop a s)) = e ∙ ap (λ (n : ℕ). g (take n (drop a s))) q in
+    let k : length (take w (drop a s)) ≡ w = length-take-le w (drop a s) (omega (arith, length-drop a s)) in
+    let j : length y ≡ w = l ∙ ap (λ (n : ℕ). length (take n (drop a s))) q ∙ k in
+    let d : drop m (drop a s) ≡ drop (a + length y) s = drop-drop m a s ∙ ap (λ (n : ℕ). drop (a + n) s) (q ∙ sym j) in
+    ap (λ (x : List ℕ). take a s ++ (y ++ x)) d ∙ ap (λ (x : List ℕ). take a s ++ (x ++ drop (a + length x) s)) f
+
+module _ (w n : ℕ) (s : List ℕ) (ok : isTable4 w n s ≡ true) (d : Cell) (i : ℕ) where
+  -- A cell that is found is among the keys.
+  pub found-has : Found i ≡ placeOf below (keys (table4 w n s)) d → true ≡ has same (keys (table4 w n s)) d
+  found-has e =
+      sym (true-of (has same (keys (table4 w n s)) d) (has-of cells (at-key cells (table4 w n s) (record { is = found-rest cell cell-lawful w n s d i ok e }))))
+
+  missing-out : Missing i ≡ placeOf below (keys (table4 w n s)) d → Mem d (keys (table4 w n s)) → ⊥
+  missing-out e = key-free cells (table4 w n s) (free-of (table4 w n s) d (missing-none cell cell-lawful w n s d i ok e))
+
+  -- A cell that is missing is not.
+  pub missing-hasnt : Missing i ≡ placeOf below (keys (table4 w n s)) d → false ≡ has same (keys (table4 w n s)) d
+  missing-hasnt e = sym (false-of (has same (keys (table4 w n s)) d) (hasnt-of cells d (keys (table4 w n s)) (missing-out e)))
+
+-- The list of a row is as long as it was.
+appended-length : (w : ℕ) (ws : List ℕ) → length (appended w ws) ≡ length ws
+unfolding appended
+appended-length w [] = refl
+appended-length w (x ∷ ws) = go (eqb x 0) (appended-length w ws)
+  where
+    go : (b : Bool) → length (appended w ws) ≡ length ws → length (cond b (w ∷ ws) (x ∷ appended w ws)) ≡ suc (length ws)
+    go true e = refl
+    go false e = ap suc e
+
+stripped-length : (w : ℕ) (ws : List ℕ) → length (stripped w ws) ≡ length ws
+unfolding stripped
+stripped-length w ws =
+    let p : ℕ → Bool = λ v. not (eqb w v) in
+    length-append (keep p ws) (replicate (length ws - length (keep p ws)) 0)
+    ∙ omega (arith, keep-shorter p ws, length-replicate {A = ℕ} (length ws - length (keep p ws)) 0)
+
+revised-length : (joins : Bool) (w : ℕ) (ws : List ℕ) → length (revised joins w ws) ≡ length ws
+unfolding revised
+revised-length true w ws = appended-length w ws
+revised-length false w ws = stripped-length w ws
+
+module _ (n : ℕ) (s : List ℕ) (ok : isTable4 30 n s ≡ true) (joins : Bool) (d : Cell) (w i : ℕ) where
+  abbrev row : List ℕ
+  row = take 30 (drop (30 * i) s)
+
+  module _ (e : Found i ≡ placeOf below (keys (table4 30 n s)) d) where
+    -- The row that is found is within the words.
+    pub found-row : 30 * i + 30 ≤ length s
+    found-row = omega (arith, row-fits 30 n i (found-below cell cell-lawful 30 n s d i e), table-facts cell 30 n s ok .fits)
+
+    row-length : length row ≡ 30
+    row-length = length-take-le 30 (drop (30 * i) s) (omega (arith, length-drop (30 * i) s, found-row))
+
+    front : take 4 (revisedRow joins w row) ≡ take 4 row
+    unfolding revisedRow
+    front = take-at (take 4 row) (revised joins w (drop 4 row)) 4 (length-take-le 4 row (omega (arith, row-length)))
+
+    back : drop 4 (revisedRow joins w row) ≡ revised joins w (drop 4 row)
+    unfolding revisedRow
+    back = drop-at (take 4 row) (revised joins w (drop 4 row)) 4 (length-take-le 4 row (omega (arith, row-length)))
+
+    wide : length (revisedRow joins w row) ≡ 30
+    unfolding revisedRow
+    wide =
+        length-append (take 4 row) (revised joins w (drop 4 row))
+        ∙ omega (arith, length-take-le 4 row (omega (arith, row-length)), revised-length joins w (drop 4 row), length-drop 4 row, row-length)
+
+    cell-front : (r : List ℕ) → cellAt r 0 ≡ cellAt (take 4 r) 0
+    cell-front r = λ j. record {
+      grid = sym (getD-take 4 r 0 0 (omega arith)) j;
+      z = sym (getD-take 4 r 1 0 (omega arith)) j;
+      y = sym (getD-take 4 r 2 0 (omega arith)) j;
+      x = sym (getD-take 4 r 3 0 (omega arith)) j;
+    }
+
+    keyed : cellAt (revisedRow joins w row) 0 ≡ d
+    keyed =
+        cell-front (revisedRow joins w row) ∙ ap (λ (r : List ℕ). cellAt r 0) front ∙ sym (cell-front row)
+        ∙ sym (key-at cell 30 n s i d (found-below cell cell-lawful 30 n s d i e)) ∙ found-is cell cell-lawful 30 n s d i d e
+
+    stands : At same (table4 30 n s) d (drop 4 row)
+    stands = record { is = found-rest cell cell-lawful 30 n s d i ok e ∙ ap (λ (r : List ℕ). some (drop 4 r)) (row-at 30 n s i (found-below cell cell-lawful 30 n s d i e)) }
+
+    -- The row that is found is revised.
+    pub told-found : (u : List ℕ) → u ≡ over s (30 * i) (revisedRow joins w (take 30 (drop (30 * i) s))) → Shows cell 30 n u (change (toldOne joins d w) (table4 30 n s))
+    unfolding toldOne
+    told-found u q =
+        let r : List ℕ = revisedRow joins w row in
+        let st = put-found cell 30 n s cell-lawful ok i r wide (e ∙ ap (placeOf below (keys (table4 30 n s))) (sym keyed)) u q in
+        let nx = put-next cell 30 cell-lawful n s ok (length s) n u (cellAt r 0) (drop 4 r) (omega (arith, length-drop 4 r, wide)) st in
+        record {
+          table = nx .0;
+          is = nx .1 ∙ (λ j. put below (keyed j) (back j) (table4 30 n s))
+              ∙ put-is-change cells d (revised joins w) (table4 30 n s) (drop 4 row) (table-facts cell 30 n s ok .asc) stands;
+        }
+
+  -- The cell is missing, and nothing is revised.
+  pub told-missing : Missing i ≡ placeOf below (keys (table4 30 n s)) d → Shows cell 30 n s (change (toldOne joins d w) (table4 30 n s))
+  unfolding toldOne
+  told-missing e = record { table = ok; is = sym (change-missing cells d (revised joins w) (table4 30 n s) (missing-out 30 n s ok d i e)) }
+
+module _ (n m : ℕ) (from to : List ℕ) (c : Cell) (okf : isTable4 4 n from ≡ true) (okt : isTable4 4 m to ≡ true) where
+  abbrev left : List (Cell × List ℕ)
+  left = table4 4 n from
+
+  abbrev joined : List (Cell × List ℕ)
+  joined = table4 4 m to
+
+  -- The cell leaves the list where it is.
+  pub cross-leaves : true ≡ has same (keys (table4 4 n from)) c → (r : ℕ) (x : List ℕ) → (r, x) ≡ stored4 (length from) (dropKey same c (table4 4 n from))
+      → (Shows cell 4 r x (dropKey same c (table4 4 n from))) × (Shows cell 4 m to (cond (has same (keys (table4 4 n from)) c) (table4 4 m to) (put below c [] (table4 4 m to))))
+  cross-leaves h r x q =
+      let nx = drop-next cell 4 cell-lawful n from okf (length from) r x c q in
+      (record { table = nx .0; is = nx .1 }, record { table = okt; is = ap (λ (b : Bool). cond b joined (put below c [] joined)) h })
+
+  -- The cell joins the other.
+  pub cross-joins : false ≡ has same (keys (table4 4 n from)) c → (r : ℕ) (x : List ℕ) → (r, x) ≡ stored4 (length to) (put below c [] (table4 4 m to))
+      → (Shows cell 4 n from (dropKey same c (table4 4 n from))) × (Shows cell 4 r x (cond (has same (keys (table4 4 n from)) c) (table4 4 m to) (put below c [] (table4 4 m to))))
+  cross-joins h r x q =
+      let nx = put-next cell 4 cell-lawful m to okt (length to) r x c [] refl q in
+      let s = table-facts cell 4 n from okf .asc in
+      let out : Mem c (keys left) → ⊥ = of-hasnt cells {a = c} (keys left) (T-true (ap not (sym h))) in (
+        record { table = okf; is = sym (drop-free cells left c (asc-fair cells left s) (free-key cells left out)) },
+        record { table = nx .0; is = nx .1 ∙ ap (λ (b : Bool). cond b joined (put below c [] joined)) h },
+      )

@@ -1,0 +1,71 @@
+-- After k numbers the first k neighbours are told.
+use Rattle.map.specs.TableLaws.{told-none, told-more}
+use Rattle.map.specs.Told.{Shows, toldOne, told}
+use Rattle.table.specs.Rows.{cell, table4}
+use Rattle.layout.specs.Rows.{neighbourOf}
+use Rattle.model.specs.Lists.{change}
+use lib.ListN.{length}
+use mathlib.Core.Path.{_≡_, refl, ap, _∙_}
+use native.Mathlib.Omega.{arith}
+use Prim.Native.Nat.{ℕ, _+_, _-_, _≤_}
+use borrow.Author.Needs.{needs}
+use Rattle.map.proofs.tell.Statement.{statement}
+use Rattle.map.proofs.tell.Tie as tie
+
+abbrev Inv-loop : tie.InvT-loop
+Inv-loop cells₀ m c joins k₀ cells k = (k ≤ 26) × (length cells ≡ length cells₀) × (Shows cell 30 m cells (change (told joins (neighbourOf c) k) (table4 30 m cells₀)))
+
+abbrev μ-loop : tie.MeasureT-loop
+μ-loop cells₀ m c joins k₀ cells k = 26 - k
+
+loop-holds : tie.Need-loop-holds Inv-loop μ-loop
+loop-holds c =
+    let a = c .before .args in
+    (omega arith, refl, record { table = c .before .pre; is = told-none (a .joins) (neighbourOf (a .c)) (table4 30 (a .m) (a .cells .now)) })
+
+add-tell-one : tie.Need-add-tell-one Inv-loop μ-loop
+add-tell-one c = search needs
+
+tell-one-requires : tie.Need-tell-one-requires Inv-loop μ-loop
+tell-one-requires c κs = (c .before .before .loop .inv .2 .table, omega arith)
+
+add-k : tie.Need-add-k Inv-loop μ-loop
+add-k c = search needs
+
+loop-less : tie.Need-loop-less Inv-loop μ-loop
+loop-less c = search needs
+
+loop-again : tie.Need-loop-again Inv-loop μ-loop
+loop-again c =
+    let a = c .before .before .before .before .before .before .before .args in
+    let l = c .before .before .before .before .before .loop in
+    let r = c .before .before .tell-one .ensures in (
+      omega arith,
+      c .before .before .tell-one .kept .0 ∙ l .inv .1,
+      record { table = r .table; is = r .is ∙ ap (change (toldOne (a .joins) (neighbourOf (a .c) (l .k + 1)) (27 - (l .k + 1)))) (l .inv .2 .is) ∙ told-more (a .joins) (neighbourOf (a .c)) (l .k) (table4 30 (a .m) (a .cells .now)) },
+    )
+
+same-length : tie.Need-same-length Inv-loop μ-loop
+same-length c = search needs
+
+returns : tie.Need-returns Inv-loop μ-loop
+returns c =
+    let a = c .before .before .before .args in
+    let l = c .before .loop in
+    let e : l .k ≡ 26 = omega arith in
+    record { table = l .inv .2 .table; is = l .inv .2 .is ∙ ap (λ (k : ℕ). change (told (a .joins) (neighbourOf (a .c)) k) (table4 30 (a .m) (a .cells .now))) e }
+
+pub tell-spec : {M : Type 1} → statement M
+tell-spec =
+    tie.close
+    (tie.spec
+    Inv-loop
+    μ-loop
+    loop-holds
+    add-tell-one
+    tell-one-requires
+    add-k
+    loop-less
+    loop-again
+    same-length
+    returns)

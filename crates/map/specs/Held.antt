@@ -1,0 +1,120 @@
+-- How the map stands in memory.
+use Prim.Native.Nat.{ℕ, suc, _*_, _≤_}
+use mathlib.Core.Path.{_≡_}
+use mathlib.Core.Bool.{true}
+use mathlib.Core.List.{List, List·Memᴰ as Mem}
+use mathlib.Core.Option.{Option, none, some}
+use lib.Dec.{eqb}
+use lib.ListN.{length, getD}
+use Rattle.model.specs.Lists.{keep, ascending, each, values}
+use Rattle.model.specs.Cells.{Cell, same, below, cellInRange, touch26}
+use Rattle.model.specs.Occupancy.{Occupancy, occupied, remove, moveTo, play}
+use Rattle.model.specs.Laws.Sorted.{Asc}
+use Rattle.model.specs.Laws.Tables.{At, Free}
+use Rattle.model.specs.Laws.Occupied.{Sound}
+use Rattle.model.specs.Laws.Net.{Inside}
+use Rattle.layout.specs.Rows.{entitiesImage, cellsImage, netImage, idsImage}
+use Rattle.map.specs.declared.Counts.{Counts}
+
+-- How many entities stand in the cell.
+unfoldable pub standing : List (ℕ × Cell) → Cell → ℕ
+standing t c = length (keep (λ (p : ℕ × Cell). same c (p .1)) t)
+
+-- Some cells, each with what a rule gives for it.
+abbrev pub tallied : (Cell → ℕ) → List Cell → List (Cell × ℕ)
+tallied f = each (λ c. (c, f c))
+
+-- Each cell where entities stand, with their number.
+unfoldable pub tally : List (ℕ × Cell) → List (Cell × ℕ)
+tally t = tallied (standing t) (ascending below (values t))
+
+-- Each occupied cell with the number of entities that stand in it.
+unfoldable pub crowdOf : Occupancy → List (Cell × ℕ)
+crowdOf o = tallied (standing (o .entities)) (occupied o)
+
+-- An occupancy that is sound and in range; its net lists ascend, the newly occupied cells are occupied, and the newly emptied are not.
+pub record Placed (o : Occupancy) : Type 0 where
+  pub sound : Sound touch26 o
+  pub inside : Inside cellInRange o
+  pub opened-asc : Asc below (o .newlyOccupied)
+  pub emptied-asc : Asc below (o .newlyEmptied)
+  pub opened-in : (c : Cell) → Mem c (o .newlyOccupied) → Mem c (occupied o)
+  pub emptied-out : (c : Cell) → Mem c (o .newlyEmptied) → Mem c (occupied o) → ⊥
+
+-- The occupied cells with their lists and both net lists, in words, with their counts.
+pub record Stored (cells occ emp : List ℕ) (n : Counts) (o : Occupancy) : Type 0 where
+  pub lists : cells ≡ cellsImage (length cells) (o .lists)
+  pub opened : occ ≡ netImage (length occ) (o .newlyOccupied)
+  pub emptied : emp ≡ netImage (length emp) (o .newlyEmptied)
+  pub cells-count : n .cells ≡ length (o .lists)
+  pub occupied-count : n .occupied ≡ length (o .newlyOccupied)
+  pub emptied-count : n .emptied ≡ length (o .newlyEmptied)
+  pub cells-fit : 30 * n .cells ≤ length cells
+  pub occupied-fit : 4 * n .occupied ≤ length occ
+  pub emptied-fit : 4 * n .emptied ≤ length emp
+
+-- The whole map in words: the entities, the occupied cells, how many stand in each, and both net lists.
+pub record Held (ents cells crowd occ emp : List ℕ) (n : Counts) (o : Occupancy) : Type 0 where
+  pub entities-is : ents ≡ entitiesImage (length ents) (o .entities)
+  pub entities-count : n .entities ≡ length (o .entities)
+  pub entities-fit : 5 * n .entities ≤ length ents
+  pub crowd-is : crowd ≡ idsImage (length crowd) (crowdOf o)
+  pub crowd-fit : 5 * n .cells ≤ length crowd
+  pub stored : Stored cells occ emp n o
+  pub placed : Placed o
+
+-- There is space for one cell more, with its list, and for one newly occupied cell more.
+pub record RoomToOpen (cells occ : List ℕ) (n : Counts) : Type 0 where
+  pub cells-room : 30 * suc (n .cells) ≤ length cells
+  pub occupied-room : 4 * suc (n .occupied) ≤ length occ
+
+-- There is space for one entity more, and for its cell.
+pub record RoomToEnter (ents cells crowd occ : List ℕ) (n : Counts) : Type 0 where
+  pub entities-room : 5 * suc (n .entities) ≤ length ents
+  pub crowd-room : 5 * suc (n .cells) ≤ length crowd
+  pub opening : RoomToOpen cells occ n
+
+-- There is space for one newly emptied cell more.
+abbrev pub RoomToLeave : List ℕ → Counts → Type 0
+RoomToLeave emp n = 4 * suc (n .emptied) ≤ length emp
+
+-- The cell c, which is in range and not occupied, can open.
+pub record Opens (cells occ emp : List ℕ) (n : Counts) (c : Cell) (o : Occupancy) : Type 0 where
+  pub placed : Placed o
+  pub stored : Stored cells occ emp n o
+  pub vacant : Mem c (occupied o) → ⊥
+  pub ranged : cellInRange c ≡ true
+  pub space : RoomToOpen cells occ n
+
+-- The cell c, which is occupied, can close.
+pub record Closes (cells occ emp : List ℕ) (n : Counts) (c : Cell) (o : Occupancy) : Type 0 where
+  pub placed : Placed o
+  pub stored : Stored cells occ emp n o
+  pub taken : Mem c (occupied o)
+  pub space : RoomToLeave emp n
+
+-- The entity e, which stands nowhere, can enter c, which is in range.
+pub record Enters (ents cells crowd occ emp : List ℕ) (n : Counts) (e : ℕ) (c : Cell) (o : Occupancy) : Type 0 where
+  pub held : Held ents cells crowd occ emp n o
+  pub free : Free eqb (o .entities) e
+  pub ranged : cellInRange c ≡ true
+  pub space : RoomToEnter ents cells crowd occ n
+
+-- The entity e, which stands in c, can leave it.
+pub record Leaves (ents cells crowd occ emp : List ℕ) (n : Counts) (e : ℕ) (c : Cell) (o : Occupancy) : Type 0 where
+  pub held : Held ents cells crowd occ emp n o
+  pub stands : At eqb (o .entities) e c
+  pub space : RoomToLeave emp n
+
+-- The occupancy after a removal of e.
+abbrev pub removalOf : ℕ → Occupancy → Occupancy
+removalOf e o = play touch26 o (remove e)
+
+-- The occupancy after a move of e to c.
+abbrev pub moveOf : ℕ → Cell → Occupancy → Occupancy
+moveOf e c o = play touch26 o (moveTo e c)
+
+-- The number that a lookup in the crowd finds, 0 where it finds no row.
+abbrev pub counted : Option (List ℕ) → ℕ
+counted none = 0
+counted (some v) = getD v 0 0

@@ -1,0 +1,13 @@
+pub mod Told
+pub mod Held
+pub mod Stands
+pub mod TableLaws
+pub mod EachLaws
+pub mod NearLaws
+pub mod ListLaws
+pub mod OpenLaws
+pub mod ShownLaws
+pub mod CrowdLaws
+pub mod PlacedLaws
+pub mod TallyLaws
+pub mod HeldLaws

@@ -1,0 +1,386 @@
+// The map in lent memory: where each entity stands, the occupied cells with their lists, how many stand in each, and both net lists.
+use component::Cell;
+use layout::neighbour_of;
+use table::Place;
+ghost use mathlib.Core.Path.{_≡_};
+ghost use mathlib.Core.Bool.{true, false, cond};
+ghost use mathlib.Core.List.{[], _∷_, _++_};
+ghost use Prim.Native.Nat.{suc, _+_, _-_, _*_, _≤_};
+ghost use lib.ListN.{length, take, drop, replicate};
+ghost use lib.Dec.{eqb};
+ghost use Rattle.component.specs.Order.{same, below};
+ghost use Rattle.model.specs.Lists.{has, keys, get, put, dropKey, change};
+ghost use Rattle.model.specs.Cells.{touch26, cellInRange};
+ghost use Rattle.model.specs.Occupancy.{Occupancy, openCell, closeCell, enter, leave};
+ghost use Rattle.layout.specs.Rows.{neighbourOf, idsImage, entitiesIn};
+ghost use Rattle.table.specs.Moves.{over};
+ghost use Rattle.table.specs.Rows.{cell, table1, isTable1, table4, stored4, isTable4, hasRoom4};
+ghost use Rattle.map.specs.Held.{Stored, Opens, Closes, Held, Enters, Leaves, RoomToEnter, RoomToLeave, removalOf, moveOf, counted, tally};
+ghost use Rattle.map.specs.Stands.{standOf};
+ghost use Rattle.map.specs.Told.{Shows, Squeezed, padded, revisedRow, toldOne, told, noted};
+
+// How many rows each table has; the crowd has as many as the cells.
+pub struct Counts {
+    pub entities: usize,
+    pub cells: usize,
+    pub occupied: usize,
+    pub emptied: usize,
+}
+
+// w takes the place of the first zero of a row's list.
+fn append(row: &mut [u64], w: u64)
+    requires { ⌜ 4 ≤ length (now row) ⌝ }
+    ensures { λ _. ⌜ now (row .exit) ≡ revisedRow true w (now (row .entry)) ⌝ }
+{
+    let mut j = 4;
+    while j < row.len() {
+        if row[j] == 0 {
+            row[j] = w;
+            return;
+        }
+        j += 1;
+    }
+}
+
+// The words of a row's list that are not w move to the front; the answer is where they end.
+fn squeeze(row: &mut [u64], w: u64) -> usize
+    requires { ⌜ 4 ≤ length (now row) ⌝ }
+    ensures { λ r. ⌜ Squeezed w (now (row .entry)) (now (row .exit)) r ⌝ }
+{
+    let mut q = 4;
+    let mut j = 4;
+    while j < row.len() {
+        let v = row[j];
+        if w == v {
+            j += 1;
+        } else {
+            row[q] = v;
+            q += 1;
+            j += 1;
+        }
+    }
+    q
+}
+
+// The words of a row's list that are w go out, the rest keep their order, and zeros come in behind.
+fn strip(row: &mut [u64], w: u64)
+    requires { ⌜ 4 ≤ length (now row) ⌝ }
+    ensures { λ _. ⌜ now (row .exit) ≡ revisedRow false w (now (row .entry)) ⌝ }
+{
+    let q = squeeze(row, w);
+    let n = row.len();
+    table::write_zeros(row, q, n - q);
+}
+
+// A row's list gains w at its end, or loses it.
+fn revise_row(row: &mut [u64], w: u64, joins: bool)
+    requires { ⌜ 4 ≤ length (now row) ⌝ }
+    ensures { λ _. ⌜ now (row .exit) ≡ revisedRow joins w (now (row .entry)) ⌝ }
+{
+    if joins {
+        append(row, w);
+    } else {
+        strip(row, w);
+    }
+}
+
+// The list of row i gains w at its end, or loses it.
+fn revise(cells: &mut [u64], i: usize, w: u64, joins: bool)
+    requires { ⌜ 30 * i + 30 ≤ length (now cells) ⌝ }
+    ensures { λ _. ⌜ now (cells .exit) ≡ over (now (cells .entry)) (30 * i) (revisedRow joins w (take 30 (drop (30 * i) (now (cells .entry))))) ⌝ }
+{
+    let a = 30 * i;
+    let e = a + 30;
+    revise_row(&mut cells[a..e], w, joins);
+}
+
+// The list of neighbour k of c, where it is occupied, gains the number of c at its end, or loses it.
+fn tell_one(cells: &mut [u64], m: usize, c: Cell, k: u64, joins: bool)
+    requires { ⌜ (isTable4 30 m (now cells) ≡ true) × (k ≤ 27) ⌝ }
+    ensures { λ _. ⌜ Shows cell 30 m (now (cells .exit)) (change (toldOne joins (neighbourOf c k) (27 - k)) (table4 30 m (now (cells .entry)))) ⌝ }
+{
+    let p = table::find4(cells, 30, m, neighbour_of(c, k));
+    match p {
+        Place::Found(i) => {
+            revise(cells, i, 27 - k, joins);
+        }
+        Place::Missing(_) => {}
+    }
+}
+
+// The list of each occupied neighbour of c gains c at its end, or loses it.
+fn tell(cells: &mut [u64], m: usize, c: Cell, joins: bool)
+    requires { ⌜ isTable4 30 m (now cells) ≡ true ⌝ }
+    ensures { λ _. ⌜ Shows cell 30 m (now (cells .exit)) (change (told joins (neighbourOf c) 26) (table4 30 m (now (cells .entry)))) ⌝ }
+{
+    let mut k = 0;
+    while k < 26 {
+        tell_one(cells, m, c, k + 1, joins);
+        k += 1;
+    }
+}
+
+// Whether a cell is among the keys of m rows of width w.
+fn contains(s: &[u64], w: usize, m: usize, c: Cell) -> bool
+    requires { ⌜ isTable4 w m (now s) ≡ true ⌝ }
+    ensures { λ r. ⌜ r ≡ has same (keys (table4 w m (now (s .entry)))) c ⌝ }
+{
+    let p = table::find4(s, w, m, c);
+    match p {
+        Place::Found(_) => true,
+        Place::Missing(_) => false,
+    }
+}
+
+// The numbers of the occupied neighbours of c come into the list of a row.
+fn note(cells: &[u64], m: usize, c: Cell, row: &mut [u64])
+    requires { ⌜ (isTable4 30 m (now cells) ≡ true) × (4 ≤ length (now row)) × (drop 4 (now row) ≡ replicate 26 0) ⌝ }
+    ensures { λ _. ⌜ now (row .exit) ≡ take 4 (now (row .entry)) ++ padded 26 (noted (keys (table4 30 m (now (cells .entry)))) (neighbourOf c) 26) ⌝ }
+{
+    let mut k = 0;
+    while k < 26 {
+        if contains(cells, 30, m, neighbour_of(c, k + 1)) {
+            append(row, k + 1);
+            k += 1;
+        } else {
+            k += 1;
+        }
+    }
+}
+
+// How many rows two net lists have: the one that a cell leaves, and the one that it joins.
+struct Nets {
+    left: usize,
+    joined: usize,
+}
+
+// c leaves one net list if it is there, and else joins the other.
+fn cross(from: &mut [u64], to: &mut [u64], n: usize, m: usize, c: Cell) -> Nets
+    requires { ⌜ (isTable4 4 n (now from) ≡ true) × (isTable4 4 m (now to) ≡ true) × (4 * suc m ≤ length (now to)) ⌝ }
+    ensures { λ r. ⌜ (Shows cell 4 (r .left) (now (from .exit)) (dropKey same c (table4 4 n (now (from .entry))))) × (Shows cell 4 (r .joined) (now (to .exit)) (cond (has same (keys (table4 4 n (now (from .entry)))) c) (table4 4 m (now (to .entry))) (put below c [] (table4 4 m (now (to .entry)))))) ⌝ }
+{
+    if contains(from, 4, n, c) {
+        let k = table::remove4(from, 4, n, c);
+        return Nets { left: k, joined: m };
+    }
+    let row = [c.grid, c.z, c.y, c.x];
+    let k = table::put4(to, m, &row);
+    Nets { left: n, joined: k }
+}
+
+// A cell opens: it gets the list of its occupied neighbours, joins theirs, and crosses the net lists.
+pub fn insert_entry(
+    cells: &mut [u64],
+    occ: &mut [u64],
+    emp: &mut [u64],
+    n: Counts,
+    c: Cell,
+) -> Counts
+    requires { ⌜ ((o : Occupancy) × Opens (now cells) (now occ) (now emp) n c o) ⌝ }
+    ensures { λ r. ⌜ r .entities ≡ n .entities ⌝ }
+    ensures { λ r. ⌜ ((o : Occupancy) → Opens (now (cells .entry)) (now (occ .entry)) (now (emp .entry)) n c o → Stored (now (cells .exit)) (now (occ .exit)) (now (emp .exit)) r (openCell touch26 c o)) ⌝ }
+{
+    let m = n.cells;
+    let mut row = [0u64; 30];
+    row[0] = c.grid;
+    row[1] = c.z;
+    row[2] = c.y;
+    row[3] = c.x;
+    note(cells, m, c, &mut row);
+    tell(cells, m, c, true);
+    let k = table::put4(cells, m, &row);
+    let x = cross(emp, occ, n.emptied, n.occupied, c);
+    Counts {
+        entities: n.entities,
+        cells: k,
+        occupied: x.joined,
+        emptied: x.left,
+    }
+}
+
+// A cell closes: its row goes out, it leaves the lists of its neighbours, and crosses the net lists.
+pub fn remove_entry(
+    cells: &mut [u64],
+    occ: &mut [u64],
+    emp: &mut [u64],
+    n: Counts,
+    c: Cell,
+) -> Counts
+    requires { ⌜ ((o : Occupancy) × Closes (now cells) (now occ) (now emp) n c o) ⌝ }
+    ensures { λ r. ⌜ r .entities ≡ n .entities ⌝ }
+    ensures { λ r. ⌜ ((o : Occupancy) → Closes (now (cells .entry)) (now (occ .entry)) (now (emp .entry)) n c o → Stored (now (cells .exit)) (now (occ .exit)) (now (emp .exit)) r (closeCell touch26 c o)) ⌝ }
+{
+    let k = table::remove4(cells, 30, n.cells, c);
+    tell(cells, k, c, false);
+    let x = cross(occ, emp, n.occupied, n.emptied, c);
+    Counts {
+        entities: n.entities,
+        cells: k,
+        occupied: x.left,
+        emptied: x.joined,
+    }
+}
+
+// How many stand in c.
+fn how_many(crowd: &[u64], m: usize, c: Cell) -> u64
+    requires { ⌜ isTable4 5 m (now crowd) ≡ true ⌝ }
+    ensures { λ r. ⌜ r ≡ counted (get same (table4 5 m (now (crowd .entry))) c) ⌝ }
+{
+    let p = table::find4(crowd, 5, m, c);
+    match p {
+        Place::Found(i) => crowd[5 * i + 4],
+        Place::Missing(_) => 0,
+    }
+}
+
+// k stand in c.
+fn set_count(crowd: &mut [u64], m: usize, c: Cell, k: u64) -> usize
+    requires { ⌜ (isTable4 5 m (now crowd) ≡ true) × (hasRoom4 5 m (now crowd) c ≡ true) ⌝ }
+    ensures { λ r. ⌜ (r, now (crowd .exit)) ≡ stored4 (length (now (crowd .entry))) (put below c (k ∷ []) (table4 5 m (now (crowd .entry)))) ⌝ }
+{
+    let row = [c.grid, c.z, c.y, c.x, k];
+    table::put4(crowd, m, &row)
+}
+
+// The entity, which stands nowhere, stands in c.
+pub fn insert(
+    ents: &mut [u64],
+    cells: &mut [u64],
+    crowd: &mut [u64],
+    occ: &mut [u64],
+    emp: &mut [u64],
+    n: Counts,
+    e: u64,
+    c: Cell,
+) -> Counts
+    requires { ⌜ ((o : Occupancy) × Enters (now ents) (now cells) (now crowd) (now occ) (now emp) n e c o) ⌝ }
+    ensures { λ r. ⌜ ((o : Occupancy) → Enters (now (ents .entry)) (now (cells .entry)) (now (crowd .entry)) (now (occ .entry)) (now (emp .entry)) n e c o → Held (now (ents .exit)) (now (cells .exit)) (now (crowd .exit)) (now (occ .exit)) (now (emp .exit)) r (enter touch26 e c o)) ⌝ }
+{
+    let m = n.cells;
+    let row = [e, c.grid, c.z, c.y, c.x];
+    let a = table::put1(ents, n.entities, &row);
+    let k = how_many(crowd, m, c);
+    set_count(crowd, m, c, k + 1);
+    let r = Counts {
+        entities: a,
+        cells: m,
+        occupied: n.occupied,
+        emptied: n.emptied,
+    };
+    if k == 0 {
+        return insert_entry(cells, occ, emp, r, c);
+    }
+    r
+}
+
+// The entity, which stands in c, stands nowhere.
+pub fn remove(
+    ents: &mut [u64],
+    cells: &mut [u64],
+    crowd: &mut [u64],
+    occ: &mut [u64],
+    emp: &mut [u64],
+    n: Counts,
+    e: u64,
+    c: Cell,
+) -> Counts
+    requires { ⌜ ((o : Occupancy) × Leaves (now ents) (now cells) (now crowd) (now occ) (now emp) n e c o) ⌝ }
+    ensures { λ r. ⌜ ((o : Occupancy) → Leaves (now (ents .entry)) (now (cells .entry)) (now (crowd .entry)) (now (occ .entry)) (now (emp .entry)) n e c o → Held (now (ents .exit)) (now (cells .exit)) (now (crowd .exit)) (now (occ .exit)) (now (emp .exit)) r (leave touch26 e c o)) ⌝ }
+{
+    let m = n.cells;
+    let a = table::remove1(ents, 5, n.entities, e);
+    let k = how_many(crowd, m, c);
+    let r = Counts {
+        entities: a,
+        cells: m,
+        occupied: n.occupied,
+        emptied: n.emptied,
+    };
+    if k <= 1 {
+        table::remove4(crowd, 5, m, c);
+        return remove_entry(cells, occ, emp, r, c);
+    }
+    set_count(crowd, m, c, k - 1);
+    r
+}
+
+// Where an entity stands.
+pub enum Stand {
+    Inside(Cell),
+    Nowhere,
+}
+
+// Where the entity stands.
+pub fn stand_of(ents: &[u64], n: usize, e: u64) -> Stand
+    requires { ⌜ isTable1 5 n (now ents) ≡ true ⌝ }
+    ensures { λ r. ⌜ r ≡ standOf (get eqb (table1 5 n (now (ents .entry))) e) ⌝ }
+{
+    let p = table::find1(ents, 5, n, e);
+    match p {
+        Place::Found(i) => Stand::Inside(table::cell_at(ents, 5 * i + 1)),
+        Place::Missing(_) => Stand::Nowhere,
+    }
+}
+
+// The removal of an entity.
+pub fn play_removal(
+    ents: &mut [u64],
+    cells: &mut [u64],
+    crowd: &mut [u64],
+    occ: &mut [u64],
+    emp: &mut [u64],
+    n: Counts,
+    e: u64,
+) -> Counts
+    requires { ⌜ ((o : Occupancy) × Held (now ents) (now cells) (now crowd) (now occ) (now emp) n o × RoomToLeave (now emp) n) ⌝ }
+    ensures { λ r. ⌜ ((o : Occupancy) → Held (now (ents .entry)) (now (cells .entry)) (now (crowd .entry)) (now (occ .entry)) (now (emp .entry)) n o → Held (now (ents .exit)) (now (cells .exit)) (now (crowd .exit)) (now (occ .exit)) (now (emp .exit)) r (removalOf e o)) ⌝ }
+{
+    let s = stand_of(ents, n.entities, e);
+    match s {
+        Stand::Inside(d) => remove(ents, cells, crowd, occ, emp, n, e, d),
+        Stand::Nowhere => n,
+    }
+}
+
+// The move of an entity to c.
+pub fn play_move(
+    ents: &mut [u64],
+    cells: &mut [u64],
+    crowd: &mut [u64],
+    occ: &mut [u64],
+    emp: &mut [u64],
+    n: Counts,
+    e: u64,
+    c: Cell,
+) -> Counts
+    requires { ⌜ ((o : Occupancy) × Held (now ents) (now cells) (now crowd) (now occ) (now emp) n o × (cellInRange c ≡ true) × RoomToEnter (now ents) (now cells) (now crowd) (now occ) n × RoomToLeave (now emp) n) ⌝ }
+    ensures { λ r. ⌜ ((o : Occupancy) → Held (now (ents .entry)) (now (cells .entry)) (now (crowd .entry)) (now (occ .entry)) (now (emp .entry)) n o → Held (now (ents .exit)) (now (cells .exit)) (now (crowd .exit)) (now (occ .exit)) (now (emp .exit)) r (moveOf e c o)) ⌝ }
+{
+    let s = stand_of(ents, n.entities, e);
+    match s {
+        Stand::Inside(d) => {
+            if component::same_cell(c, d) {
+                return n;
+            }
+            let r = remove(ents, cells, crowd, occ, emp, n, e, d);
+            insert(ents, cells, crowd, occ, emp, r, e, c)
+        }
+        Stand::Nowhere => insert(ents, cells, crowd, occ, emp, n, e, c),
+    }
+}
+
+// How many entities stand in each cell; the answer is the number of rows.
+pub fn crowd_of(ents: &[u64], n: usize, crowd: &mut [u64]) -> usize
+    requires { ⌜ (5 * n ≤ length (now ents)) × (now crowd ≡ replicate (length (now crowd)) 0) × (5 * length (tally (entitiesIn n (now ents))) ≤ length (now crowd)) ⌝ }
+    ensures { λ r. ⌜ (r ≡ length (tally (entitiesIn n (now (ents .entry))))) × (now (crowd .exit) ≡ idsImage (length (now (crowd .entry))) (tally (entitiesIn n (now (ents .entry))))) ⌝ }
+{
+    let mut m = 0;
+    let mut i = 0;
+    while i < n {
+        let c = table::cell_at(ents, 5 * i + 1);
+        let k = how_many(crowd, m, c);
+        m = set_count(crowd, m, c, k + 1);
+        i += 1;
+    }
+    m
+}

@@ -1,0 +1,144 @@
+-- The loop holds the ids of the neighbours that are tried.
+use Prim.Native.Nat.{ℕ, _+_, _-_, _*_, _≤_, _<_}
+use native.Mathlib.Omega.{arith}
+use mathlib.Core.Option.{some}
+use mathlib.Core.Path.{_≡_, refl, sym, ap, _∙_}
+use lib.ListN.{length, take, getD, length-set}
+use borrow.Author.Needs.{needs}
+use Rattle.model.specs.Groups.{Ids}
+use Rattle.model.specs.Cells.{same}
+use Rattle.model.specs.Lists.{get}
+use Rattle.partition.specs.FoundLaws.{found-none, found-more, found-same, tried-all}
+use Rattle.partition.specs.IdLaws.{row-found, row-missing}
+use Rattle.partition.specs.HeldLaws.{ids-table}
+use Rattle.partition.specs.Held.{HeldRows, tried, idsAt}
+use Rattle.partition.proofs.found_at.Statement.{statement}
+use Rattle.partition.proofs.found_at.Tie as tie
+
+abbrev Inv-loop : tie.InvT-loop
+Inv-loop ids n c found₀ m₀ k₀ found m k = (k ≤ 26) × (m ≤ k) × (length found ≡ length found₀) × (26 ≤ length found₀) × ((t : Ids) → HeldRows ids n t → take m found ≡ idsAt t (tried c k))
+
+abbrev μ-loop : tie.MeasureT-loop
+μ-loop ids n c found₀ m₀ k₀ found m k = 26 - k
+
+abbrev at : tie.After-known-told Inv-loop μ-loop → ℕ
+at c = c .before .p .given .0 .0
+
+is-found : (c : tie.After-known-told Inv-loop μ-loop) (t : Ids) → HeldRows (c .before .before .before .before .before .before .before .before .before .args .ids .now) (c .before .before .before .before .before .before .before .before .before .args .n) t
+    → (at c < c .before .before .before .before .before .before .before .before .before .args .n) × (get same t (c .before .before .before .before .neighbour-of .result) ≡ some (getD (c .before .before .before .before .before .before .before .before .before .args .ids .now) (5 * at c + 4) 0))
+is-found c t h = row-found (c .before .before .before .before .before .before .before .before .before .args .ids .now) (c .before .before .before .before .before .before .before .before .before .args .n) t h (c .before .before .before .before .neighbour-of .result) (at c) (sym (c .before .p .given .1) ∙ c .before .before .before .find4 .ensures)
+
+within : (c : tie.After-known-told Inv-loop μ-loop) → (at c < c .before .before .before .before .before .before .before .before .before .args .n) × (5 * c .before .before .before .before .before .before .before .before .before .args .n ≤ length (c .before .before .before .before .before .before .before .before .before .args .ids .now))
+within c = let s = c .before .before .before .before .before .before .before .before .before in (is-found c (s .pre .0) (s .pre .1) .0, s .pre .1 .fits)
+
+loop-holds : tie.Need-loop-holds Inv-loop μ-loop
+loop-holds c = let s = c .before .before in (omega arith, omega arith, refl, s .pre .3, λ t h. found-none t (s .args .c) (s .args .found .now))
+
+add-neighbour-of : tie.Need-add-neighbour-of Inv-loop μ-loop
+add-neighbour-of c = search needs
+
+neighbour-of-requires : tie.Need-neighbour-of-requires Inv-loop μ-loop
+neighbour-of-requires c κs = search needs
+
+find4-requires : tie.Need-find4-requires Inv-loop μ-loop
+find4-requires c κs = let s = c .before .before .before .before .before in ids-table (s .args .ids .now) (s .args .n) (s .pre .0) (s .pre .1)
+
+enum-known-p : tie.Need-enum-known-p Inv-loop μ-loop
+enum-known-p c = search needs
+
+mul-found : tie.Need-mul-found Inv-loop μ-loop
+mul-found c = let w = within c in search needs
+
+add-found : tie.Need-add-found Inv-loop μ-loop
+add-found c = let w = within c in search needs
+
+mul-found-2 : tie.Need-mul-found-2 Inv-loop μ-loop
+mul-found-2 c = let w = within c in search needs
+
+shared-slice-read-found : tie.Need-shared-slice-read-found Inv-loop μ-loop
+shared-slice-read-found c = let w = within (c .before) in search needs
+
+mul-found-3 : tie.Need-mul-found-3 Inv-loop μ-loop
+mul-found-3 c = search needs
+
+slice-write-found : tie.Need-slice-write-found Inv-loop μ-loop
+slice-write-found c = search needs
+
+add-m : tie.Need-add-m Inv-loop μ-loop
+add-m c = search needs
+
+add-k : tie.Need-add-k Inv-loop μ-loop
+add-k c = search needs
+
+loop-less : tie.Need-loop-less Inv-loop μ-loop
+loop-less c = search needs
+
+loop-again : tie.Need-loop-again Inv-loop μ-loop
+loop-again c =
+    let s = c .before .before .before .before .before .before .before .before .before .before in
+    let v = c .before .before .before .before .before .before .before .loop .inv in (
+      omega arith,
+      omega arith,
+      simp length-set (v .2),
+      v .3,
+      λ t h. found-more t (s .args .c) (c .before .before .before .before .before .before .before .loop .k) (c .before .before .before .before .before .before .before .loop .m) (c .before .before .before .before .before .before .before .loop .found) (v .4 t h) (getD (s .args .ids .now) (5 * at (c .before) + 4) 0) (c .before .before .before .before .before .neighbour-of .result) (omega arith) (c .before .before .before .before .before .neighbour-of .ensures) (is-found (c .before) t h .1),
+    )
+
+enum-told : tie.Need-enum-told Inv-loop μ-loop
+enum-told c = search needs
+
+add-k-2 : tie.Need-add-k-2 Inv-loop μ-loop
+add-k-2 c = search needs
+
+loop-less-2 : tie.Need-loop-less-2 Inv-loop μ-loop
+loop-less-2 c = search needs
+
+loop-again-2 : tie.Need-loop-again-2 Inv-loop μ-loop
+loop-again-2 c =
+    let s = c .before .before .before .before .before .before .before .before in
+    let v = c .before .before .before .before .before .loop .inv in (
+      omega arith,
+      omega arith,
+      v .2,
+      v .3,
+      λ t h. found-same t (s .args .c) (c .before .before .before .before .before .loop .k) (c .before .before .before .before .before .loop .m) (c .before .before .before .before .before .loop .found) (v .4 t h) (c .before .before .before .neighbour-of .result) (c .before .before .before .neighbour-of .ensures)
+          (row-missing (s .args .ids .now) (s .args .n) t h (c .before .before .before .neighbour-of .result) (c .enum-told .given .0 .0) (sym (c .enum-told .given .1) ∙ c .before .before .find4 .ensures)),
+    )
+
+same-length : tie.Need-same-length Inv-loop μ-loop
+same-length c = search needs
+
+returns : tie.Need-returns Inv-loop μ-loop
+returns c =
+    let s = c .before .before .before .before in
+    let v = c .before .loop .inv in
+    let e : c .before .loop .k ≡ 26 = omega arith in
+    (omega arith, λ t h. v .4 t h ∙ ap (λ (k : ℕ). idsAt t (tried (s .args .c) k)) e ∙ tried-all (s .args .c) (s .pre .2) t (h .asc))
+
+pub found-at-spec : {M : Type 1} → statement M
+found-at-spec =
+    tie.close
+    (tie.spec
+    Inv-loop
+    μ-loop
+    loop-holds
+    add-neighbour-of
+    neighbour-of-requires
+    find4-requires
+    enum-known-p
+    mul-found
+    add-found
+    mul-found-2
+    shared-slice-read-found
+    mul-found-3
+    slice-write-found
+    add-m
+    add-k
+    loop-less
+    loop-again
+    enum-told
+    add-k-2
+    loop-less-2
+    loop-again-2
+    same-length
+    returns)

@@ -1,0 +1,88 @@
+-- What words hold: a table of cells with ids, the groups, a table of group records.
+use Prim.Native.Nat.{ℕ, suc, _+_, _*_, _≤_, _<_, min, max}
+use mathlib.Core.Path.{_≡_}
+use mathlib.Core.List.{List, [], _∷_, List·Memᴰ as Mem}
+use mathlib.Core.Bool.{not}
+use mathlib.Core.Option.{Option, none, some}
+use lib.Dec.{T, ltb}
+use lib.ListN.{length, getD, take, drop}
+use Rattle.model.specs.Lists.{each, gather, count, keys, get, put, has, only}
+use Rattle.model.specs.Cells.{Cell, same, below, cellInRange}
+use Rattle.model.specs.Groups.{Ids, Groups, Group, lower, higher, groupOf, largestGroup, merge}
+use Rattle.model.specs.Laws.Sorted.{Asc}
+use Rattle.table.specs.Rows.{cell, rowOf}
+use Rattle.layout.specs.Rows.{idRow, idsImage, groupsImage, netImage, neighbourOf}
+
+-- The words hold n cells with ids, ascending, in range.
+pub record HeldRows (words : List ℕ) (n : ℕ) (t : Ids) : Type 0 where
+  pub image : words ≡ idsImage (length words) t
+  pub count : n ≡ length t
+  pub asc : Asc below (keys t)
+  pub ranged : (c : Cell) → Mem c (keys t) → T (cellInRange c)
+  pub fits : 5 * n ≤ length words
+
+-- The words hold the groups, and `next` is their next id.
+pub record HeldIds (words : List ℕ) (n next : ℕ) (s : Groups) : Type 0 where
+  pub rows : HeldRows words n (s .ids)
+  pub is-next : next ≡ s .next
+
+-- The words hold m cells of a net list, ascending, in range.
+pub record HeldCells (words : List ℕ) (m : ℕ) (l : List Cell) : Type 0 where
+  pub image : words ≡ netImage (length words) l
+  pub count : m ≡ length l
+  pub asc : Asc below l
+  pub ranged : (c : Cell) → Mem c l → T (cellInRange c)
+  pub fits : 4 * m ≤ length words
+
+-- The words hold k group records, ascending by id.
+pub record HeldGroups (words : List ℕ) (k : ℕ) (l : List (ℕ × Group)) : Type 0 where
+  pub image : words ≡ groupsImage (length words) l
+  pub count : k ≡ length l
+  pub asc : Asc ltb (keys l)
+  pub fits : 9 * k ≤ length words
+
+-- A group with one cell more; the group of that cell alone where there was none.
+abbrev pub grown : Option Group → Cell → Group
+grown none c = groupOf c []
+grown (some r) c = record { grid = r .grid; count = suc (r .count); low = lower (r .low) c; high = higher (r .high) c }
+
+-- Each group has fewer than 2^63 cells.
+abbrev pub fewCells : List (ℕ × Group) → Type 0
+fewCells l = (q : ℕ × Group) → Mem q l → q .1 .count < 9223372036854775808
+
+-- The words of the record that stands at a place, with one cell more.
+abbrev pub grownWords : List ℕ → ℕ → Cell → List ℕ
+grownWords s at c =
+    getD s at 0 ∷ getD s (at + 1) 0 ∷ (getD s (at + 2) 0 + 1)
+    ∷ min (getD s (at + 3) 0) (c .x) ∷ min (getD s (at + 4) 0) (c .y) ∷ min (getD s (at + 5) 0) (c .z)
+    ∷ max (getD s (at + 6) 0) (c .x) ∷ max (getD s (at + 7) 0) (c .y) ∷ max (getD s (at + 8) 0) (c .z) ∷ []
+
+-- The first k neighbours of a cell.
+unfoldable pub tried : Cell → ℕ → List Cell
+tried c k = each (neighbourOf c) (count 1 k)
+
+-- An id that is there, as a list.
+abbrev pub listOf : Option ℕ → List ℕ
+listOf none = []
+listOf (some g) = g ∷ []
+
+-- The ids of those of the cells that have one, in order.
+unfoldable pub idsAt : Ids → List Cell → List ℕ
+idsAt t l = gather (λ d. listOf (get same t d)) l
+
+-- The cells with ids after the cell c joins the first group of a list, and all of them merge.
+unfoldable pub joined : Ids → Cell → List ℕ → Ids
+joined t c l = merge (largestGroup (put below c (getD l 0 0) t) (getD l 0 0) (drop 1 l)) l (put below c (getD l 0 0) t)
+
+-- The words of rows.
+abbrev pub wordsOf : Ids → List ℕ
+wordsOf t = gather (rowOf cell) (each idRow t)
+
+-- The rows that stay.
+abbrev pub stay : List Cell → Ids → Ids
+stay l t = only (λ c. not (has same l c)) t
+
+-- The first i rows are sifted: those that stay fill the first j rows, and from row i on the words are as they were.
+pub record Sifted (words₀ words : List ℕ) (i j : ℕ) (l : List Cell) (t : Ids) : Type 0 where
+  pub count : j ≡ length (stay l (take i t))
+  pub front : take (5 * j) words ≡ wordsOf (stay l (take i t))

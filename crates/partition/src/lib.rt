@@ -1,0 +1,329 @@
+// Groups of touching cells: the cells that have an id, row by row in lent words, and the rules that keep them.
+use component::Cell;
+use layout::neighbour_of;
+use table::Place;
+use table::cell_at;
+use table::find1;
+use table::find4;
+use table::put1;
+use table::put4;
+use table::remove4;
+use table::write_row;
+use table::write_zeros;
+ghost use mathlib.Core.Path.{_≡_};
+ghost use Prim.Native.Nat.{ℕ, suc, _+_, _*_, _<_, _≤_, min, max};
+ghost use mathlib.Core.List.{List, [], _∷_, List·Memᴰ};
+ghost use lib.ListN.{length, getD, take, drop, replicate};
+ghost use Rattle.table.specs.Moves.{over};
+ghost use lib.Dec.{T, ltb, eqb};
+ghost use Rattle.model.specs.Lists.{all, has, get, put, dropKey, run};
+ghost use Rattle.model.specs.Cells.{Cell, same, below, cellInRange, touch26};
+ghost use Rattle.model.specs.Groups.{Ids, Groups, Group, size, largestGroup, merge, foundAt, rule1, rule2, records};
+ghost use Rattle.partition.specs.Held.{HeldRows, HeldIds, HeldCells, HeldGroups, grown, grownWords, fewCells, joined, Sifted};
+
+// The smaller of two numbers.
+fn lesser(a: u64, b: u64) -> u64
+    ensures { λ r. ⌜ r ≡ min a b ⌝ }
+{
+    if a < b { a } else { b }
+}
+
+// The larger of two numbers.
+fn greater(a: u64, b: u64) -> u64
+    ensures { λ r. ⌜ r ≡ max a b ⌝ }
+{
+    if a < b { b } else { a }
+}
+
+// The words of the group record at at, with the cell c more.
+fn grown_row(groups: &[u64], at: usize, c: Cell) -> [u64; 9]
+    requires { ⌜ (at + 9 ≤ length (now groups)) × (getD (now groups) (at + 2) 0 < 9223372036854775808) ⌝ }
+    ensures { λ r. ⌜ r ≡ grownWords (now (groups .entry)) at c ⌝ }
+{
+    [
+        groups[at],
+        groups[at + 1],
+        groups[at + 2] + 1,
+        lesser(groups[at + 3], c.x),
+        lesser(groups[at + 4], c.y),
+        lesser(groups[at + 5], c.z),
+        greater(groups[at + 6], c.x),
+        greater(groups[at + 7], c.y),
+        greater(groups[at + 8], c.z),
+    ]
+}
+
+// The cell c is counted in the record of the group g; the answer is the new number of records.
+fn count_cell(groups: &mut [u64], k: usize, c: Cell, g: u64) -> usize
+    requires { ⌜ ((l : List (ℕ × Group)) × HeldGroups (now groups) k l × fewCells l × (9 * k + 9 ≤ length (now groups))) ⌝ }
+    ensures { λ r. ⌜ ((l : List (ℕ × Group)) → HeldGroups (now (groups .entry)) k l → HeldGroups (now (groups .exit)) r (put ltb g (grown (get eqb l g) c) l)) ⌝ }
+{
+    let p = find1(groups, 9, k, g);
+    match p {
+        Place::Found(i) => {
+            let row = grown_row(groups, 9 * i, c);
+            put1(groups, k, &row)
+        }
+        Place::Missing(_) => {
+            let row = [g, c.grid, 1, c.x, c.y, c.z, c.x, c.y, c.z];
+            put1(groups, k, &row)
+        }
+    }
+}
+
+// The group records of the cells with ids are written; the answer is their number.
+pub fn build_records(ids: &[u64], n: usize, groups: &mut [u64]) -> usize
+    requires { ⌜ ((t : Ids) × HeldRows (now ids) n t × (now groups ≡ replicate (length (now groups)) 0) × (9 * n ≤ length (now groups))) ⌝ }
+    ensures { λ r. ⌜ ((t : Ids) → HeldRows (now (ids .entry)) n t → HeldGroups (now (groups .exit)) r (records t)) ⌝ }
+{
+    let mut k = 0;
+    let mut i = 0;
+    while i < n {
+        k = count_cell(groups, k, cell_at(ids, 5 * i), ids[5 * i + 4]);
+        i += 1;
+    }
+    k
+}
+
+// The ids at the neighbours of c, in order; the answer is their number.
+pub fn found_at(ids: &[u64], n: usize, c: Cell, found: &mut [u64]) -> usize
+    requires { ⌜ ((t : Ids) × HeldRows (now ids) n t × T (cellInRange c) × (26 ≤ length (now found))) ⌝ }
+    ensures { λ r. ⌜ (r ≤ 26) × ((t : Ids) → HeldRows (now (ids .entry)) n t → take r (now (found .exit)) ≡ foundAt touch26 t c) ⌝ }
+{
+    let mut m = 0;
+    let mut k: u64 = 0;
+    while k < 26 {
+        let p = find4(ids, 5, n, neighbour_of(c, k + 1));
+        match p {
+            Place::Found(i) => {
+                found[m] = ids[5 * i + 4];
+                m += 1;
+                k += 1;
+            }
+            Place::Missing(_) => {
+                k += 1;
+            }
+        }
+    }
+    m
+}
+
+// How many cells the group g has.
+pub fn group_size(ids: &[u64], n: usize, g: u64) -> usize
+    requires { ⌜ 5 * n ≤ length (now ids) ⌝ }
+    ensures { λ r. ⌜ ((t : Ids) → HeldRows (now (ids .entry)) n t → r ≡ size t g) ⌝ }
+{
+    let mut m = 0;
+    let mut i = 0;
+    while i < n {
+        if ids[5 * i + 4] == g {
+            m += 1;
+            i += 1;
+        } else {
+            i += 1;
+        }
+    }
+    m
+}
+
+// The largest of the first k groups found; among equals the earliest.
+pub fn largest(ids: &[u64], n: usize, found: &[u64], k: usize) -> u64
+    requires { ⌜ (5 * n ≤ length (now ids)) × (1 ≤ k) × (k ≤ length (now found)) ⌝ }
+    ensures { λ r. ⌜ ((t : Ids) → HeldRows (now (ids .entry)) n t → r ≡ largestGroup t (getD (now (found .entry)) 0 0) (drop 1 (take k (now (found .entry))))) ⌝ }
+{
+    let mut best = found[0];
+    let mut j = 1;
+    while j < k {
+        let a = group_size(ids, n, best);
+        let b = group_size(ids, n, found[j]);
+        if a < b {
+            best = found[j];
+            j += 1;
+        } else {
+            j += 1;
+        }
+    }
+    best
+}
+
+// Whether the group g is among the first k found.
+fn is_found(found: &[u64], k: usize, g: u64) -> bool
+    requires { ⌜ k ≤ length (now found) ⌝ }
+    ensures { λ r. ⌜ r ≡ has eqb (take k (now (found .entry))) g ⌝ }
+{
+    let mut j = 0;
+    while j < k {
+        if g == found[j] {
+            return true;
+        }
+        j += 1;
+    }
+    false
+}
+
+// All of the first k groups found become the group `into`.
+pub fn merge(ids: &mut [u64], n: usize, found: &[u64], k: usize, into: u64)
+    requires { ⌜ (5 * n ≤ length (now ids)) × (k ≤ length (now found)) ⌝ }
+    ensures { λ _. ⌜ ((t : Ids) → HeldRows (now (ids .entry)) n t → HeldRows (now (ids .exit)) n (merge into (take k (now (found .entry))) t)) ⌝ }
+{
+    let mut i = 0;
+    while i < n {
+        if is_found(found, k, ids[5 * i + 4]) {
+            ids[5 * i + 4] = into;
+            i += 1;
+        } else {
+            i += 1;
+        }
+    }
+}
+
+// The cell c takes the id g; the answer is the new number of rows.
+pub fn push(ids: &mut [u64], n: usize, c: Cell, g: u64) -> usize
+    requires { ⌜ ((t : Ids) × HeldRows (now ids) n t × T (cellInRange c) × (5 * n + 5 ≤ length (now ids))) ⌝ }
+    ensures { λ r. ⌜ (r ≤ n + 1) × ((t : Ids) → HeldRows (now (ids .entry)) n t → HeldRows (now (ids .exit)) r (put below c g t)) ⌝ }
+{
+    let row = [c.grid, c.z, c.y, c.x, g];
+    put4(ids, n, &row)
+}
+
+// The cell c has no id any more; the answer is the new number of rows.
+pub fn remove(ids: &mut [u64], n: usize, c: Cell) -> usize
+    requires { ⌜ ((t : Ids) × HeldRows (now ids) n t) ⌝ }
+    ensures { λ r. ⌜ (r ≤ n) × ((t : Ids) → HeldRows (now (ids .entry)) n t → HeldRows (now (ids .exit)) r (dropKey same c t)) ⌝ }
+{
+    remove4(ids, 5, n, c)
+}
+
+// How many rows there are, and the next id.
+pub struct Numbered {
+    pub count: usize,
+    pub next: u64,
+}
+
+// Whether the first k groups found are all the same.
+fn all_same(found: &[u64], k: usize) -> bool
+    requires { ⌜ (1 ≤ k) × (k ≤ length (now found)) ⌝ }
+    ensures { λ r. ⌜ r ≡ all (eqb (getD (now (found .entry)) 0 0)) (take k (now (found .entry))) ⌝ }
+{
+    let first = found[0];
+    let mut j = 0;
+    while j < k {
+        if first == found[j] {
+            j += 1;
+        } else {
+            return false;
+        }
+    }
+    true
+}
+
+// The cell c joins the first of the k groups found, and all found merge; the answer is the new number of rows.
+fn join(ids: &mut [u64], n: usize, c: Cell, found: &[u64], k: usize) -> usize
+    requires { ⌜ ((t : Ids) × HeldRows (now ids) n t × T (cellInRange c) × (5 * n + 5 ≤ length (now ids)) × (1 ≤ k) × (k ≤ length (now found))) ⌝ }
+    ensures { λ r. ⌜ (r ≤ n + 1) × ((t : Ids) → HeldRows (now (ids .entry)) n t → HeldRows (now (ids .exit)) r (joined t c (take k (now (found .entry))))) ⌝ }
+{
+    let r = push(ids, n, c, found[0]);
+    if all_same(found, k) {
+        return r;
+    }
+    let into = largest(ids, r, found, k);
+    merge(ids, r, found, k, into);
+    r
+}
+
+// Rule 1, for one newly occupied cell.
+pub fn rule1(ids: &mut [u64], n: usize, next: u64, c: Cell) -> Numbered
+    requires { ⌜ ((s : Groups) × HeldIds (now ids) n next s × T (cellInRange c) × (5 * n + 5 ≤ length (now ids)) × (next < 18446744073709551615)) ⌝ }
+    ensures { λ r. ⌜ (r .count ≤ n + 1) × (r .next ≤ next + 1) × ((s : Groups) → HeldIds (now (ids .entry)) n next s → HeldIds (now (ids .exit)) (r .count) (r .next) (rule1 touch26 s c)) ⌝ }
+{
+    let mut found = [0; 26];
+    let k = found_at(ids, n, c, &mut found);
+    if k == 0 {
+        let m = push(ids, n, c, next);
+        return Numbered {
+            count: m,
+            next: next + 1,
+        };
+    }
+    let m = join(ids, n, c, &found, k);
+    Numbered {
+        count: m,
+        next: next,
+    }
+}
+
+// Rule 1 for m newly occupied cells, in order.
+pub fn rules1(ids: &mut [u64], n: usize, next: u64, occupied: &[u64], m: usize) -> Numbered
+    requires { ⌜ ((s : Groups) × (l : List Cell) × HeldIds (now ids) n next s × HeldCells (now occupied) m l × (5 * n + 5 * m ≤ length (now ids)) × (next + m < 18446744073709551616)) ⌝ }
+    ensures { λ r. ⌜ (r .count ≤ n + m) × (r .next ≤ next + m) × ((s : Groups) (l : List Cell) → HeldIds (now (ids .entry)) n next s → HeldCells (now (occupied .entry)) m l → HeldIds (now (ids .exit)) (r .count) (r .next) (run (rule1 touch26) s l)) ⌝ }
+{
+    let mut count = n;
+    let mut id = next;
+    let mut i = 0;
+    while i < m {
+        let r = rule1(ids, count, id, cell_at(occupied, 4 * i));
+        count = r.count;
+        id = r.next;
+        i += 1;
+    }
+    Numbered {
+        count: count,
+        next: id,
+    }
+}
+
+// Whether the cell c is one of m cells.
+fn is_among(cells: &[u64], m: usize, c: Cell) -> bool
+    requires { ⌜ ((l : List Cell) × HeldCells (now cells) m l) ⌝ }
+    ensures { λ r. ⌜ ((l : List Cell) → HeldCells (now (cells .entry)) m l → r ≡ has same l c) ⌝ }
+{
+    let p = find4(cells, 4, m, c);
+    match p {
+        Place::Found(_) => true,
+        Place::Missing(_) => false,
+    }
+}
+
+// Row i is copied to row j.
+fn copy_row(ids: &mut [u64], i: usize, j: usize)
+    requires { ⌜ (j ≤ i) × (5 * i + 5 ≤ length (now ids)) ⌝ }
+    ensures { λ _. ⌜ now (ids .exit) ≡ over (now (ids .entry)) (5 * j) (getD (now (ids .entry)) (5 * i) 0 ∷ getD (now (ids .entry)) (5 * i + 1) 0 ∷ getD (now (ids .entry)) (5 * i + 2) 0 ∷ getD (now (ids .entry)) (5 * i + 3) 0 ∷ getD (now (ids .entry)) (5 * i + 4) 0 ∷ []) ⌝ }
+{
+    let row = [
+        ids[5 * i],
+        ids[5 * i + 1],
+        ids[5 * i + 2],
+        ids[5 * i + 3],
+        ids[5 * i + 4],
+    ];
+    write_row(ids, 5 * j, &row);
+}
+
+// The rows of cells that are not emptied are moved to the front; the answer is their number.
+fn sift(ids: &mut [u64], n: usize, emptied: &[u64], m: usize) -> usize
+    requires { ⌜ ((t : Ids) × (l : List Cell) × HeldRows (now ids) n t × HeldCells (now emptied) m l) ⌝ }
+    ensures { λ r. ⌜ (r ≤ n) × (drop (5 * n) (now (ids .exit)) ≡ drop (5 * n) (now (ids .entry))) × ((t : Ids) (l : List Cell) → HeldRows (now (ids .entry)) n t → HeldCells (now (emptied .entry)) m l → Sifted (now (ids .entry)) (now (ids .exit)) n r l t) ⌝ }
+{
+    let mut j = 0;
+    let mut i = 0;
+    while i < n {
+        if is_among(emptied, m, cell_at(ids, 5 * i)) {
+            i += 1;
+        } else {
+            copy_row(ids, i, j);
+            j += 1;
+            i += 1;
+        }
+    }
+    j
+}
+
+// Rule 2: all newly emptied cells leave their groups; the answer is the new number of rows.
+pub fn rule2(ids: &mut [u64], n: usize, emptied: &[u64], m: usize) -> usize
+    requires { ⌜ ((t : Ids) × (l : List Cell) × HeldRows (now ids) n t × HeldCells (now emptied) m l) ⌝ }
+    ensures { λ r. ⌜ (r ≤ n) × ((next : ℕ) (s : Groups) (l : List Cell) → HeldIds (now (ids .entry)) n next s → HeldCells (now (emptied .entry)) m l → HeldIds (now (ids .exit)) r next (rule2 touch26 l s)) ⌝ }
+{
+    let r = sift(ids, n, emptied, m);
+    write_zeros(ids, 5 * r, 5 * (n - r));
+    r
+}
