@@ -22,6 +22,11 @@ pub record Cells (words : List ℕ) (n : ℕ) (t : List (Cell × List Cell)) : T
   pub exact : (c : Cell) (l : List Cell) → Mem (c, l) t → Exact touch26 (keys t) c l
   pub room : (c : Cell) (l : List Cell) (d : Cell) → Mem (c, l) t → Mem d l → hasRoom 1 c ≡ true
 
+-- Some table stands in the words.
+pub record Stands (words : List ℕ) (n : ℕ) : Type 0 where
+  pub table : List (Cell × List Cell)
+  pub cells : Cells words n table
+
 -- The flood from a cell over the lists of a table, at most n cells.
 abbrev pub floodFrom : List (Cell × List Cell) → ℕ → Cell → List Cell
 floodFrom t n c = visit t n (c ∷ []) (c ∷ [])

@@ -13,6 +13,13 @@ use Rattle.model.specs.Laws.Sorted.{Asc}
 use Rattle.table.specs.Rows.{cell, rowOf}
 use Rattle.layout.specs.Rows.{idRow, idsImage, groupsImage, netImage, neighbourOf}
 
+-- The words hold n cells with ids, ascending.
+pub record HeldTable (words : List ℕ) (n : ℕ) (t : Ids) : Type 0 where
+  pub image : words ≡ idsImage (length words) t
+  pub count : n ≡ length t
+  pub asc : Asc below (keys t)
+  pub fits : 5 * n ≤ length words
+
 -- The words hold n cells with ids, ascending, in range.
 pub record HeldRows (words : List ℕ) (n : ℕ) (t : Ids) : Type 0 where
   pub image : words ≡ idsImage (length words) t

@@ -24,7 +24,7 @@ use Rattle.table.specs.Images.{image-length}
 use Rattle.table.specs.Next.{stored-next, room-space}
 use Rattle.table.specs.Words.{entry-at, word-at, rest-at, number-at, cell-at}
 use Rattle.layout.specs.Rows.{idRow, idOf, groupRow, netRow, idsImage, groupsImage, netImage}
-use Rattle.partition.specs.Held.{HeldRows, HeldCells, HeldGroups, grown, grownWords, fewCells}
+use Rattle.partition.specs.Held.{HeldTable, HeldRows, HeldCells, HeldGroups, grown, grownWords, fewCells}
 
 module _ {A B : Type 0} (f : A → B) where
   pub each-drop : (i : ℕ) (l : List A) → each f (drop i l) ≡ drop i (each f l)
@@ -102,39 +102,57 @@ some-inj {a} e = ap (λ o. elim o [ none ↦ a | some c ↦ c ]) e
 abbrev pub oneId : ℕ → List ℕ
 oneId g = g ∷ []
 
-module _ (words : List ℕ) (n : ℕ) (t : Ids) (held : HeldRows words n t) where
-  ids-both : (isTableOf cell 5 n words ≡ true) × (tableOf cell 5 n words ≡ each idRow t)
+module _ (words : List ℕ) (n : ℕ) (t : Ids) (held : HeldTable words n t) where
+  plain-both : (isTableOf cell 5 n words ≡ true) × (tableOf cell 5 n words ≡ each idRow t)
   unfolding idsImage
-  ids-both =
+  plain-both =
       image-table cell 5 idRow (λ a. refl) cell-lawful (omega arith) words n t (held .image) (held .count)
       (subst (λ (l : List Cell). Asc below l) (sym (through-keys oneId t)) (held .asc))
 
   -- The words are a table.
-  pub ids-table : isTableOf cell 5 n words ≡ true
-  ids-table = ids-both .0
+  pub plain-table : isTableOf cell 5 n words ≡ true
+  plain-table = plain-both .0
 
   -- Its rows are those of the cells with ids.
-  pub ids-rows : tableOf cell 5 n words ≡ each idRow t
-  ids-rows = ids-both .1
+  pub plain-rows : tableOf cell 5 n words ≡ each idRow t
+  plain-rows = plain-both .1
 
-  pub ids-read : each idOf (tableOf cell 5 n words) ≡ t
-  ids-read = ap (each idOf) ids-rows ∙ each-each idOf idRow t ∙ each-same (λ (p : Cell × ℕ). idOf (idRow p)) t (λ p m. refl)
+  pub plain-read : each idOf (tableOf cell 5 n words) ≡ t
+  plain-read = ap (each idOf) plain-rows ∙ each-each idOf idRow t ∙ each-same (λ (p : Cell × ℕ). idOf (idRow p)) t (λ p m. refl)
 
   -- From row i on stand the cell and the id of row i, and the rows behind it.
-  pub ids-at : (i : ℕ) → i < n → drop i t ≡ (cellAt words (5 * i), getD words (5 * i + 4) 0) ∷ drop (suc i) t
-  ids-at i h =
+  pub plain-at : (i : ℕ) → i < n → drop i t ≡ (cellAt words (5 * i), getD words (5 * i + 4) 0) ∷ drop (suc i) t
+  plain-at i h =
       let r : List ℕ = getD (rowsOf 5 n words) i [] in
       let at : (j : ℕ) → j < 5 → getD r j 0 ≡ getD words (5 * i + j) 0 = λ j l. word-at 5 n words i j h l in
       let z : getD words (5 * i + 0) 0 ≡ getD words (5 * i) 0 = ap (λ (m : ℕ). getD words m 0) (omega arith) in
       let e : _≡_ {A = Cell × ℕ} (idOf (entryOf cell r)) (cellAt words (5 * i), getD words (5 * i + 4) 0) =
-      (λ k. (
-        record { grid = (at 0 (omega arith) ∙ z) k; z = at 1 (omega arith) k; y = at 2 (omega arith) k; x = at 3 (omega arith) k },
-        rest-at 5 n words i 4 0 h (omega arith) k,
-      )) in
-      ap (drop i) (sym ids-read)
+        (λ k. (record { grid = (at 0 (omega arith) ∙ z) k; z = at 1 (omega arith) k; y = at 2 (omega arith) k; x = at 3 (omega arith) k },
+        rest-at 5 n words i 4 0 h (omega arith) k)) in
+      ap (drop i) (sym plain-read)
       ∙ sym (each-drop idOf i (tableOf cell 5 n words))
       ∙ ap (each idOf) (entry-at cell 5 n words i h)
-      ∙ (λ k. e k ∷ (each-drop idOf (suc i) (tableOf cell 5 n words) ∙ ap (drop (suc i)) ids-read) k)
+      ∙ (λ k. e k ∷ (each-drop idOf (suc i) (tableOf cell 5 n words) ∙ ap (drop (suc i)) plain-read) k)
+
+-- Cells in range are cells.
+pub plain : {words : List ℕ} {n : ℕ} {t : Ids} → HeldRows words n t → HeldTable words n t
+plain held = record { image = held .image; count = held .count; asc = held .asc; fits = held .fits }
+
+module _ (words : List ℕ) (n : ℕ) (t : Ids) (held : HeldRows words n t) where
+  -- The words are a table.
+  pub ids-table : isTableOf cell 5 n words ≡ true
+  ids-table = plain-table words n t (plain held)
+
+  -- Its rows are those of the cells with ids.
+  pub ids-rows : tableOf cell 5 n words ≡ each idRow t
+  ids-rows = plain-rows words n t (plain held)
+
+  pub ids-read : each idOf (tableOf cell 5 n words) ≡ t
+  ids-read = plain-read words n t (plain held)
+
+  -- From row i on stand the cell and the id of row i, and the rows behind it.
+  pub ids-at : (i : ℕ) → i < n → drop i t ≡ (cellAt words (5 * i), getD words (5 * i + 4) 0) ∷ drop (suc i) t
+  ids-at = plain-at words n t (plain held)
 
 -- Cells.
 module _ (words : List ℕ) (m : ℕ) (l : List Cell) (held : HeldCells words m l) where

@@ -19,8 +19,8 @@ use Rattle.model.specs.Laws.Sorted.{Asc, ascending-asc, ascending-length}
 use Rattle.model.specs.Laws.Tables.{keys-length, put-asc, table-same, get-put-self, get-put-other}
 use Rattle.model.specs.Laws.Records.{shownOf, records-get, records-keys}
 use Rattle.table.specs.Rows.{cellAt}
-use Rattle.partition.specs.Held.{HeldRows, HeldGroups, grown, fewCells}
-use Rattle.partition.specs.HeldLaws.{ids-at}
+use Rattle.partition.specs.Held.{HeldTable, HeldGroups, grown, fewCells}
+use Rattle.partition.specs.HeldLaws.{plain-at}
 
 -- What is shown of cells with one more at the end.
 shown-more : (l : List Cell) (c : Cell) → shownOf (l ++ c ∷ []) ≡ some (grown (shownOf l) c)
@@ -93,7 +93,7 @@ records-few t h q m =
         let d = keys-length (keep (λ (p : Cell × ℕ). eqb g (p .1)) t) in
         omega (arith, keep-shorter (λ (p : Cell × ℕ). eqb g (p .1)) t)
 
-module _ (words groups : List ℕ) (n k i : ℕ) (t : Ids) (held : HeldRows words n t) (done : HeldGroups groups k (records (take i t))) (h : i < n) (len : 9 * n ≤ length groups) where
+module _ (words groups : List ℕ) (n k i : ℕ) (t : Ids) (held : HeldTable words n t) (done : HeldGroups groups k (records (take i t))) (h : i < n) (len : 9 * n ≤ length groups) where
   -- What counting one more cell asks.
   pub turn-asks : n < 9223372036854775808 → (l : List (ℕ × Group)) × HeldGroups groups k l × fewCells l × (9 * k + 9 ≤ length groups)
   turn-asks b =
@@ -109,14 +109,14 @@ module _ (words groups : List ℕ) (n k i : ℕ) (t : Ids) (held : HeldRows word
   turn-done r x a b f =
       let p : Cell × ℕ = (cellAt words (5 * i), getD words (5 * i + 4) 0) in
       let c : n ≡ length t = held .count in
-      let d : _≡_ {A = List (Cell × ℕ)} (getD t i p ∷ drop (suc i) t) (p ∷ drop (suc i) t) = sym (drop-cons t i p (omega arith)) ∙ ids-at words n t held i h in
+      let d : _≡_ {A = List (Cell × ℕ)} (getD t i p ∷ drop (suc i) t) (p ∷ drop (suc i) t) = sym (drop-cons t i p (omega arith)) ∙ plain-at words n t held i h in
       let e : getD t i p ≡ p = ap (λ (l : List (Cell × ℕ)). getD l 0 p) d in
       let u : take (i + 1) t ≡ take i t ++ p ∷ [] =
       ap (λ (m : ℕ). take m t) (add-one i) ∙ take-suc t i p (omega arith) ∙ ap (λ (q : Cell × ℕ). take i t ++ q ∷ []) e in
       subst (λ (l : List (ℕ × Group)). HeldGroups x r l) (sym (ap records u ∙ records-more (take i t) (p .0) (p .1))) (subst (λ (d : Cell). HeldGroups x r (put ltb (p .1) (grown (get eqb (records (take i t)) (p .1)) d) (records (take i t)))) b (f (records (take i t)) done))
 
 -- The records of all cells are held in the end.
-pub all-done : (words groups : List ℕ) (n k i : ℕ) (t : Ids) → HeldRows words n t → HeldGroups groups k (records (take i t)) → n ≤ i → HeldGroups groups k (records t)
+pub all-done : (words groups : List ℕ) (n k i : ℕ) (t : Ids) → HeldTable words n t → HeldGroups groups k (records (take i t)) → n ≤ i → HeldGroups groups k (records t)
 all-done words groups n k i t held done h =
     let c : n ≡ length t = held .count in
     subst (λ (u : Ids). HeldGroups groups k (records u)) (take-all i t (omega arith)) done

@@ -19,7 +19,7 @@ ghost use lib.Dec.{T, ltb, eqb};
 ghost use Rattle.model.specs.Lists.{all, has, get, put, dropKey, run};
 ghost use Rattle.model.specs.Cells.{Cell, same, below, cellInRange, touch26};
 ghost use Rattle.model.specs.Groups.{Ids, Groups, Group, size, largestGroup, merge, foundAt, rule1, rule2, records};
-ghost use Rattle.partition.specs.Held.{HeldRows, HeldIds, HeldCells, HeldGroups, grown, grownWords, fewCells, joined, Sifted};
+ghost use Rattle.partition.specs.Held.{HeldTable, HeldRows, HeldIds, HeldCells, HeldGroups, grown, grownWords, fewCells, joined, Sifted};
 
 // The smaller of two numbers.
 fn lesser(a: u64, b: u64) -> u64
@@ -73,8 +73,8 @@ fn count_cell(groups: &mut [u64], k: usize, c: Cell, g: u64) -> usize
 
 // The group records of the cells with ids are written; the answer is their number.
 pub fn build_records(ids: &[u64], n: usize, groups: &mut [u64]) -> usize
-    requires { ⌜ ((t : Ids) × HeldRows (now ids) n t × (now groups ≡ replicate (length (now groups)) 0) × (9 * n ≤ length (now groups))) ⌝ }
-    ensures { λ r. ⌜ ((t : Ids) → HeldRows (now (ids .entry)) n t → HeldGroups (now (groups .exit)) r (records t)) ⌝ }
+    requires { ⌜ ((t : Ids) × HeldTable (now ids) n t × (now groups ≡ replicate (length (now groups)) 0) × (9 * n ≤ length (now groups))) ⌝ }
+    ensures { λ r. ⌜ ((t : Ids) → HeldTable (now (ids .entry)) n t → HeldGroups (now (groups .exit)) r (records t)) ⌝ }
 {
     let mut k = 0;
     let mut i = 0;

@@ -7,14 +7,14 @@ use borrow.Author.Needs.{needs}
 use Rattle.model.specs.Groups.{Ids, records}
 use Rattle.partition.specs.RecordLaws.{turn-asks, turn-done, all-done}
 use Rattle.partition.specs.HeldLaws.{groups-none}
-use Rattle.partition.specs.Held.{HeldRows, HeldGroups}
+use Rattle.partition.specs.Held.{HeldTable, HeldGroups}
 use Rattle.partition.proofs.build_records.Statement.{statement}
 use Rattle.partition.proofs.build_records.Tie as tie
 
 abbrev Inv-loop : tie.InvT-loop
 Inv-loop ids n groups₀ k₀ i₀ groups k i =
     (i ≤ n) × (length groups ≡ length groups₀) × (5 * n ≤ length ids) × (9 * n ≤ length groups₀)
-    × ((t : Ids) → HeldRows ids n t → HeldGroups groups k (records (take i t)))
+    × ((t : Ids) → HeldTable ids n t → HeldGroups groups k (records (take i t)))
 
 abbrev μ-loop : tie.MeasureT-loop
 μ-loop ids n groups₀ k₀ i₀ groups k i = n - i
