@@ -1,0 +1,16 @@
+pub mod Update
+pub mod Playing
+pub mod PlayLaws
+pub mod LongerLaws
+pub mod Known
+pub mod KnownLaws
+pub mod Steps
+pub mod StepLaws
+pub mod WriteLaws
+pub mod Numbers
+pub mod AnswerLaws
+pub mod CallLaws
+pub mod Runs
+pub mod UpdateUnique
+pub mod UpdateGrouping
+pub mod UpdateIsolation
