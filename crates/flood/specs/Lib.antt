@@ -8,5 +8,3 @@ pub mod Reads
 pub mod Pushes
 pub mod Answers
 pub mod Filling
-pub mod Meets
-pub mod Examples

@@ -1,21 +1,23 @@
 -- What a lookup reads from the words of a table.
-use Prim.Native.Nat.{ℕ, _+_, _*_, _≤_}
+use Prim.Native.Nat.{ℕ, suc, _+_, _*_, _≤_, _<_}
 use native.Mathlib.Omega.{arith}
-use mathlib.Core.Path.{_≡_, sym, ap, _∙_}
+use mathlib.Core.Path.{_≡_, refl, sym, ap, _∙_}
 use mathlib.Core.Bool.{true}
-use mathlib.Core.List.{List}
+use mathlib.Core.List.{List, []}
+use mathlib.Core.Option.{Option, none, some}
 use lib.Dec.{eqb, ltb}
-use lib.ListN.{length, getD}
+use lib.ListN.{length, drop, getD}
 use Rattle.component.specs.Order.{same, below}
 use Rattle.component.specs.declared.Cell.{Cell}
 use Rattle.model.specs.Lists.{keys, get}
 use Rattle.table.specs.declared.Place.the-variants.{Found, Missing}
-use Rattle.table.specs.Rows.{number, cell, cellAt, table1, table4, isTable1, isTable4, placeOf}
+use Rattle.table.specs.Rows.{number, cell, cellAt, table1, table4, isTable1, isTable4, placeOf, rowsOf}
 use Rattle.table.specs.Kinds.{number-lawful, cell-lawful}
 use Rattle.table.specs.Words.{rest-at}
 use Rattle.table.specs.Answers.{found-below, found-rest, missing-none}
-use Rattle.table.proofs.Ways.{found-words}
+use Rattle.table.specs.Images.{table-facts}
 use Rattle.map.specs.Held.{counted}
+use Rattle.map.specs.declared.Stand.{Stand}
 use Rattle.map.specs.declared.Stand.the-variants.{Inside, Nowhere}
 use Rattle.map.specs.Stands.{standOf}
 use Rattle.map.specs.TallyLaws.{entity-cell}
@@ -23,7 +25,7 @@ use Rattle.map.specs.TallyLaws.{entity-cell}
 module _ (m : ℕ) (s : List ℕ) (ok : isTable4 5 m s ≡ true) (c : Cell) (i : ℕ) where
   -- The row of a cell that is found is within the words.
   pub counted-within : Found i ≡ placeOf below (keys (table4 5 m s)) c → 5 * i + 5 ≤ length s
-  counted-within e = let f = found-words cell 5 m s cell-lawful ok i c e in omega arith
+  counted-within e = omega (arith, found-below cell cell-lawful 5 m s c i e, table-facts cell 5 m s ok .fits)
 
   -- The number of a cell that is found.
   pub counted-found : Found i ≡ placeOf below (keys (table4 5 m s)) c → getD s (5 * i + 4) 0 ≡ counted (get same (table4 5 m s) c)
@@ -37,7 +39,7 @@ module _ (m : ℕ) (s : List ℕ) (ok : isTable4 5 m s ≡ true) (c : Cell) (i :
 module _ (n : ℕ) (s : List ℕ) (ok : isTable1 5 n s ≡ true) (k i : ℕ) where
   -- The row of an entity that is found is within the words.
   pub stand-within : Found i ≡ placeOf ltb (keys (table1 5 n s)) k → 5 * i + 5 ≤ length s
-  stand-within e = let f = found-words number 5 n s number-lawful ok i k e in omega arith
+  stand-within e = omega (arith, found-below number number-lawful 5 n s k i e, table-facts number 5 n s ok .fits)
 
   -- The cell of an entity that is found.
   pub stand-found : Found i ≡ placeOf ltb (keys (table1 5 n s)) k → (d : Cell) → d ≡ cellAt s (5 * i + 1) → Inside d ≡ standOf (get eqb (table1 5 n s) k)

@@ -1,29 +1,30 @@
 -- What an entity that enters or leaves asks of the tables, and how it leaves them.
-use Prim.Native.Nat.{ℕ, suc, _+_, _-_, _≤_, _<_}
+use Prim.Native.Nat.{ℕ, zero, suc, _+_, _-_, _*_, _≤_, _<_}
 use native.Mathlib.Numerals.{add-one}
 use native.Mathlib.Omega.{arith}
 use mathlib.Core.Path.{_≡_, refl, sym, ap, _∙_, subst}
 use mathlib.Core.Bool.{Bool, true, false, cond}
 use mathlib.Core.List.{List, [], _∷_, List·Memᴰ as Mem}
-use lib.Dec.{eqb, ltb, lt→ltb}
+use lib.Dec.{T, eqb, ltb, nltb→le, lt→ltb}
 use lib.ListN.{length}
 use Rattle.model.specs.Lists.{each, keys, get, put, dropKey}
-use Rattle.model.specs.Cells.{Cell, same, below, touch26}
+use Rattle.model.specs.Cells.{Cell, same, below, cellInRange, touch26}
 use Rattle.model.specs.Occupancy.{Occupancy, occupied, standsIn, withEntities, openCell, closeCell, enter, leave}
-use Rattle.model.specs.Laws.Tests.{T-false, true-of, false-of, nltb-of}
+use Rattle.model.specs.Laws.Tests.{T-true, T-false, true-of, false-of, nltb-of}
 use Rattle.model.specs.Laws.Members.{each-length}
 use Rattle.model.specs.Laws.Sorted.{Asc}
+use Rattle.model.specs.Laws.Tables.{keys-length}
 use Rattle.model.specs.Laws.Occupied.{not-occupied, at-occupied, occupied-asc}
 use Rattle.layout.specs.Rows.{entityRow, idRow, entitiesImage, idsImage}
 use Rattle.layout.specs.RowLaws.{entities-wide, ids-wide}
-use Rattle.table.specs.Rows.{number, cell, cellWords, table1, stored1, table4, stored4, hasRoom4}
+use Rattle.table.specs.Rows.{number, cell, cellWords, table1, stored1, isTable1, hasRoom1, table4, stored4, isTable4, hasRoom4}
 use Rattle.table.specs.Kinds.{number-lawful, cell-lawful}
-use Rattle.table.specs.Next.{room-there, put-next, drop-next}
+use Rattle.table.specs.Next.{room-space, room-there, put-next, drop-next}
 use Rattle.map.specs.declared.Counts.{Counts}
 use Rattle.map.specs.Told.{Shows}
 use Rattle.map.specs.Held.{standing, crowdOf, counted, Placed, Stored, Held, Opens, Closes, Enters, Leaves}
 use Rattle.map.specs.EachLaws.{keys-each, put-each, drop-each, image-shows, shows-image, shows-count, shows-fit}
-use Rattle.map.specs.CrowdLaws.{stands-counted, standing-few, crowd-keys, crowd-length, crowd-counted, crowd-enter, crowd-leave, crowd-close, last-leaves, other-stays}
+use Rattle.map.specs.CrowdLaws.{stands-counted, standing-few, crowd-keys, crowd-counted, crowd-enter, crowd-leave, crowd-close, last-leaves, other-stays}
 use Rattle.map.specs.PlacedLaws.{enter-placed, leave-placed}
 
 -- The words behind the key of an entity's row, and of a crowd's.
@@ -34,8 +35,9 @@ abbrev number-of : Cell → ℕ → List ℕ
 number-of c k = k ∷ []
 
 -- The number of cells is that of the rows of the crowd.
-crowd-rows : (o : Occupancy) → Placed o → length (each idRow (crowdOf o)) ≡ length (o .lists)
-crowd-rows o ok = each-length idRow (crowdOf o) ∙ crowd-length touch26 o (ok .sound)
+crowd-length : (o : Occupancy) → Placed o → length (each idRow (crowdOf o)) ≡ length (o .lists)
+crowd-length o ok =
+    each-length idRow (crowdOf o) ∙ sym (keys-length (crowdOf o)) ∙ ap length (crowd-keys touch26 o (ok .sound)) ∙ keys-length (o .lists)
 
 -- The counts of the lists do not look at that of the entities.
 pub stored-but : (cells occ emp : List ℕ) (n : Counts) (a : ℕ) (o : Occupancy) → Stored cells occ emp n o
@@ -73,7 +75,7 @@ hold : (ents cells crowd occ emp : List ℕ) (r : Counts) (o : Occupancy) → Pl
     → (j : ℕ) → Shows cell 5 j crowd (each idRow (crowdOf o)) → Stored cells occ emp r o → Held ents cells crowd occ emp r o
 unfolding entitiesImage idsImage
 hold ents cells crowd occ emp r o ok x j y z =
-    let e : j ≡ r .cells = shows-count cell cell-lawful 5 j crowd (each idRow (crowdOf o)) y ∙ crowd-rows o ok ∙ sym (z .cells-count) in
+    let e : j ≡ r .cells = shows-count cell cell-lawful 5 j crowd (each idRow (crowdOf o)) y ∙ crowd-length o ok ∙ sym (z .cells-count) in
     record {
       entities-is = shows-image number number-lawful 5 (r .entities) ents (each entityRow (o .entities)) x;
       entities-count = shows-count number number-lawful 5 (r .entities) ents (each entityRow (o .entities)) x ∙ each-length entityRow (o .entities);
@@ -96,7 +98,7 @@ module _ (ents cells crowd occ emp : List ℕ) (n : Counts) (o : Occupancy) (h :
   pub crowd-shows : Shows cell 5 (n .cells) crowd (each idRow (crowdOf o))
   unfolding idsImage
   crowd-shows =
-      image-shows cell cell-lawful 5 (n .cells) crowd (each idRow (crowdOf o)) (h .crowd-is) (h .stored .cells-count ∙ sym (crowd-rows o (h .placed))) (omega arith)
+      image-shows cell cell-lawful 5 (n .cells) crowd (each idRow (crowdOf o)) (h .crowd-is) (h .stored .cells-count ∙ sym (crowd-length o (h .placed))) (omega arith)
       (ids-wide (crowdOf o)) (subst (Asc below) (sym (keys-each number-of (crowdOf o) ∙ crowd-keys touch26 o (h .placed .sound))) (occupied-asc touch26 o (h .placed .sound)))
 
   -- The number that is found is the number that stand there.

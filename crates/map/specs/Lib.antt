@@ -10,4 +10,3 @@ pub mod ShownLaws
 pub mod CrowdLaws
 pub mod PlacedLaws
 pub mod TallyLaws
-pub mod HeldLaws

@@ -5,9 +5,9 @@ use table::Place;
 ghost use mathlib.Core.Path.{_≡_};
 ghost use mathlib.Core.Bool.{true, false, cond};
 ghost use mathlib.Core.List.{[], _∷_, _++_};
-ghost use Prim.Native.Nat.{suc, _+_, _-_, _*_, _≤_};
+ghost use Prim.Native.Nat.{ℕ, suc, _+_, _-_, _*_, _≤_, _<_};
 ghost use lib.ListN.{length, take, drop, replicate};
-ghost use lib.Dec.{eqb};
+ghost use lib.Dec.{eqb, ltb};
 ghost use Rattle.component.specs.Order.{same, below};
 ghost use Rattle.model.specs.Lists.{has, keys, get, put, dropKey, change};
 ghost use Rattle.model.specs.Cells.{touch26, cellInRange};
@@ -17,7 +17,7 @@ ghost use Rattle.table.specs.Moves.{over};
 ghost use Rattle.table.specs.Rows.{cell, table1, isTable1, table4, stored4, isTable4, hasRoom4};
 ghost use Rattle.map.specs.Held.{Stored, Opens, Closes, Held, Enters, Leaves, RoomToEnter, RoomToLeave, removalOf, moveOf, counted, tally};
 ghost use Rattle.map.specs.Stands.{standOf};
-ghost use Rattle.map.specs.Told.{Shows, Squeezed, padded, revisedRow, toldOne, told, noted};
+ghost use Rattle.map.specs.Told.{Shows, Squeezed, padded, stripped, revisedRow, toldOne, told, noted};
 
 // How many rows each table has; the crowd has as many as the cells.
 pub struct Counts {

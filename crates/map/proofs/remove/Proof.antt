@@ -1,6 +1,7 @@
 -- Each way out is one of `Passing`: the last has left, or others stay.
 use Rattle.map.proofs.Passing.{stored-but, ents-shows, crowd-shows, leaves-closes, leaves-room, left-last, left-others}
-use mathlib.Core.Path.{refl}
+use mathlib.Core.Path.{_≡_, refl, sym, ap, _∙_}
+use native.Mathlib.Omega.{arith}
 use borrow.Author.Needs.{needs}
 use Rattle.map.proofs.remove.Statement.{statement}
 use Rattle.map.proofs.remove.Tie as tie
