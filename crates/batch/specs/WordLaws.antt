@@ -1,9 +1,9 @@
 -- The moves that words stand for, one after the other.
 use Prim.Native.Nat.{ℕ, zero, suc, _+_, _*_, _-_, _/_, _<_, _≤_}
 use native.Mathlib.Omega.{arith}
-use mathlib.Core.Path.{_≡_, refl, sym, _∙_, ap, subst}
+use mathlib.Core.Path.{_≡_, refl, sym, _∙_, ap}
 use mathlib.Core.Bool.{Bool, true, false, cond, not, _&&_}
-use mathlib.Core.List.{List, [], _∷_, _++_}
+use mathlib.Core.List.{List, [], _∷_}
 use lib.Dec.{ltb}
 use lib.ListN.{length, take, drop, getD, length-append}
 use lib.Seq.{getD-take, getD-drop, drop-drop, length-take-le}
@@ -14,7 +14,6 @@ use Rattle.model.specs.Cells.{Cell, cellInRange}
 use Rattle.model.specs.Occupancy.{remove, moveTo, events}
 use Rattle.model.specs.Update.{mostEvents, lastNext, tooManyEvents, outOfRange, fewIds}
 use Rattle.model.specs.Laws.Members.{each-length}
-use Rattle.table.specs.Rows.{rowsOf}
 use Rattle.batch.specs.Words.{storedWord, moveAt, movesIn, batchOf, early}
 
 -- The move of words that agree on five places.

@@ -17,14 +17,15 @@ storedWord n = (n + bias) % 18446744073709551616
 
 -- The move whose five words stand at a place.
 abbrev pub moveAt : List ℕ → ℕ → ℕ × Cell
-moveAt s at =
-    (getD s at 0,
-      record {
-        grid = getD s (at + 1) 0;
-        z = storedWord (getD s (at + 4) 0);
-        y = storedWord (getD s (at + 3) 0);
-        x = storedWord (getD s (at + 2) 0);
-      })
+moveAt s at = (
+  getD s at 0,
+  record {
+    grid = getD s (at + 1) 0;
+    z = storedWord (getD s (at + 4) 0);
+    y = storedWord (getD s (at + 3) 0);
+    x = storedWord (getD s (at + 2) 0);
+  },
+)
 
 -- The moves that words stand for, n of them.
 unfoldable pub movesIn : ℕ → List ℕ → List (ℕ × Cell)

@@ -1,10 +1,9 @@
 -- What point 2 is computed by.
-use Prim.Native.Nat.{ℕ, _+_, _*_, _≤_, _<_}
-use native.Mathlib.Omega.{arith}
-use mathlib.Core.Path.{_≡_, refl, sym, ap, _∙_, subst}
+use Prim.Native.Nat.{ℕ, _*_, _≤_}
+use mathlib.Core.Path.{_≡_, refl, sym, ap, _∙_}
 use mathlib.Core.Bool.{Bool, true, false, _&&_}
 use mathlib.Core.List.{List}
-use lib.Dec.{T, T-not, not-T, leb}
+use lib.Dec.{T-not, leb}
 use lib.ListN.{length, take, drop, getD}
 use borrow.Author.Tests.{le-leb}
 use Rattle.component.specs.Tests.{both}
@@ -12,17 +11,17 @@ use Rattle.model.specs.Lists.{equal, keys, values, ascending, isAscending}
 use Rattle.model.specs.Cells.{Cell, same, below}
 use Rattle.model.specs.Update.{mostCells}
 use Rattle.model.specs.Consistent.{standing}
-use Rattle.model.specs.Laws.Tests.{T-true, T-false, true-of, false-of}
+use Rattle.model.specs.Laws.Tests.{T-true, T-false, true-of}
 use Rattle.model.specs.Laws.Orders.{cells}
 use Rattle.model.specs.Laws.Members.{equal-in, equal-out}
 use Rattle.table.specs.Rows.{cell, areZero, table4, isTable4, isTableOf}
 use Rattle.table.specs.Words.{keys-length}
 use Rattle.layout.specs.Rows.{entitiesIn, cellsIn, idsIn}
-use Rattle.layout.specs.State.{decode, entityWords, cellWords, idWords}
+use Rattle.layout.specs.State.{decode, cellWords, idWords}
 use Rattle.layout.specs.Points.{tidy, longEnough, point1, point2}
 use Rattle.scans.specs.Readings.{cells-keys, ids-keys}
 use Rattle.consistent.specs.Wholes.{entities-part, cells-part, ids-part}
-use Rattle.consistent.specs.PointLaws.{Tabled, tabled, point1-few}
+use Rattle.consistent.specs.PointLaws.{tabled, point1-few}
 
 -- A test that cannot hold fails.
 pub refuted : (b : Bool) → (b ≡ true → ⊥) → b ≡ false
@@ -66,9 +65,10 @@ module _ (w : List ℕ) (long : longEnough w ≡ true) where
   point2-keys e =
       let a = both (tidy 30 mostCells m (cellWords w)) _ e in
       let b = both (tidy 5 mostCells k (idWords w)) _ (a .1) in
-      let c = both (equal same (keys (idsIn k (idWords w))) (standing (decode w))) (equal same (keys (cellsIn m (cellWords w))) (standing (decode w))) (b .1) in
-      (ap (λ s. keys (table4 5 k s)) (ids-part w) ∙ sym (ids-keys k (idWords w)) ∙ equal-out same (cells .same-eq) _ _ (T-true (c .0)) ∙ sym stand-is,
-       ap (λ s. keys (table4 30 m s)) (cells-part w) ∙ sym (cells-keys m (cellWords w)) ∙ equal-out same (cells .same-eq) _ _ (T-true (c .1)) ∙ sym stand-is)
+      let c = both (equal same (keys (idsIn k (idWords w))) (standing (decode w))) (equal same (keys (cellsIn m (cellWords w))) (standing (decode w))) (b .1) in (
+        ap (λ s. keys (table4 5 k s)) (ids-part w) ∙ sym (ids-keys k (idWords w)) ∙ equal-out same (cells .same-eq) _ _ (T-true (c .0)) ∙ sym stand-is,
+        ap (λ s. keys (table4 30 m s)) (cells-part w) ∙ sym (cells-keys m (cellWords w)) ∙ equal-out same (cells .same-eq) _ _ (T-true (c .1)) ∙ sym stand-is,
+      )
 
   -- As many cells have an id as are occupied.
   pub point2-count : point2 w ≡ true → m ≡ k
@@ -100,14 +100,14 @@ module _ (w : List ℕ) (long : longEnough w ≡ true) where
       let few = point1-few w one in
       let f : m ≤ 1024 = few .1 in
       let a : tidy 30 mostCells m (cellWords w) ≡ true =
-          (λ i. le-leb m 1024 f i && (ap (λ s. areZero (drop (30 * m) s)) (sym (cells-part w)) ∙ table-zeros 30 m C tc) i) in
+      (λ i. le-leb m 1024 f i && (ap (λ s. areZero (drop (30 * m) s)) (sym (cells-part w)) ∙ table-zeros 30 m C tc) i) in
       let b : tidy 5 mostCells k (idWords w) ≡ true =
-          ap (λ n. tidy 5 mostCells n (idWords w)) (sym q) ∙ (λ i. le-leb m 1024 f i && (ap (λ s. areZero (drop (5 * m) s)) (sym (ids-part w)) ∙ table-zeros 5 m I ti) i) in
+      ap (λ n. tidy 5 mostCells n (idWords w)) (sym q) ∙ (λ i. le-leb m 1024 f i && (ap (λ s. areZero (drop (5 * m) s)) (sym (ids-part w)) ∙ table-zeros 5 m I ti) i) in
       let same-keys : keys (table4 5 m I) ≡ keys (table4 30 m C) = equal-out same (cells .same-eq) _ _ (T-true e) in
       let ids-are : keys (idsIn k (idWords w)) ≡ keys (table4 30 m C) =
-          ids-keys k (idWords w) ∙ ap (λ s. keys (table4 5 k s)) (sym (ids-part w)) ∙ ap (λ n. keys (table4 5 n I)) (sym q) ∙ same-keys in
+      ids-keys k (idWords w) ∙ ap (λ s. keys (table4 5 k s)) (sym (ids-part w)) ∙ ap (λ n. keys (table4 5 n I)) (sym q) ∙ same-keys in
       let cells-are : keys (cellsIn m (cellWords w)) ≡ keys (table4 30 m C) =
-          cells-keys m (cellWords w) ∙ ap (λ s. keys (table4 30 m s)) (sym (cells-part w)) in
+      cells-keys m (cellWords w) ∙ ap (λ s. keys (table4 30 m s)) (sym (cells-part w)) in
       twice (equal same (keys (table4 30 m C)) (ascending below E))
       ∙ (λ i. sym a i && (sym b i && (equal same (sym ids-are i) (stand-is i) && equal same (sym cells-are i) (stand-is i))))
     where

@@ -1,17 +1,17 @@
 -- What point 5 is computed by.
-use Prim.Native.Nat.{ℕ, _+_, _*_, _≤_, _<_}
+use Prim.Native.Nat.{ℕ, _*_, _≤_}
 use native.Mathlib.Omega.{arith}
-use mathlib.Core.Path.{_≡_, refl, sym, ap, _∙_, subst}
+use mathlib.Core.Path.{_≡_, sym, ap, _∙_, subst}
 use mathlib.Core.Bool.{Bool, true, false, _&&_}
 use mathlib.Core.List.{List}
-use lib.Dec.{T, eqb, eqb→eq, eqb-refl, leb}
+use lib.Dec.{eqb, eqb→eq, eqb-refl, leb}
 use lib.ListN.{length, take, drop, getD, replicate, length-replicate}
 use borrow.Author.Tests.{leb-true, le-leb}
 use Rattle.component.specs.Tests.{both}
-use Rattle.model.specs.Lists.{equal, keys}
+use Rattle.model.specs.Lists.{equal}
 use Rattle.model.specs.Cells.{Cell, below}
 use Rattle.model.specs.Update.{mostCells}
-use Rattle.model.specs.Groups.{Ids, Group, records}
+use Rattle.model.specs.Groups.{Ids, records}
 use Rattle.model.specs.Consistent.{sameRecord}
 use Rattle.model.specs.Laws.Tests.{T-true, true-of, same-test}
 use Rattle.model.specs.Laws.Members.{equal-in, equal-out}
@@ -20,14 +20,14 @@ use Rattle.model.specs.Laws.Consistency.{record-eq, record-self}
 use Rattle.table.specs.Rows.{cell, areZero}
 use Rattle.table.specs.Images.{table-facts}
 use Rattle.layout.specs.Rows.{groupsImage, idsIn, groupsIn}
-use Rattle.layout.specs.State.{decode, idWords, groupWords}
+use Rattle.layout.specs.State.{decode}
 use Rattle.layout.specs.Points.{tidy, longEnough, point2, point5}
 use Rattle.layout.specs.ImageLaws.{ids-laws, groups-laws}
 use Rattle.partition.specs.Held.{HeldTable, HeldGroups}
 use Rattle.partition.specs.RecordLaws.{records-shorter}
 use Rattle.scans.specs.Readings.{ids-keys}
-use Rattle.consistent.specs.Wholes.{ids-part, groups-part, ids-length, groups-length}
-use Rattle.consistent.specs.PointLaws.{Tabled, tabled}
+use Rattle.consistent.specs.Wholes.{ids-part, groups-part, groups-length}
+use Rattle.consistent.specs.PointLaws.{tabled}
 use Rattle.consistent.specs.CellLaws.{refuted, table-zeros}
 
 -- Words that hold the records of ids, and any words: point 5 over variables.
@@ -65,7 +65,7 @@ module _ (t : Ids) (few : length t ≤ 1024) (built : List ℕ) (k : ℕ) (held 
       let f : g ≤ 1024 = omega (arith, records-shorter t) in
       let i : words ≡ groupsImage (length built) (records t) = sym e ∙ held .image in
       let z : areZero (drop (9 * g) words) ≡ true =
-          (λ n. areZero (drop (9 * s n) (i n))) ∙ groups-laws .zeros (length built) (records t) (λ a m. tt) in
+      (λ n. areZero (drop (9 * s n) (i n))) ∙ groups-laws .zeros (length built) (records t) (λ a m. tt) in
       let same : groupsIn g words ≡ records t = (λ n. groupsIn (s n) (i n)) ∙ groups-laws .read (length built) (records t) (λ a m. tt) in
       (λ n. (le-leb g 1024 f n && z n) && true-of (equal sameRecord (groupsIn g words) (records t)) (equal-in sameRecord record-self same) n)
 
@@ -89,7 +89,8 @@ module _ (w : List ℕ) (long : longEnough w ≡ true) (two : point2 w ≡ true)
         image = sym (ids-laws .written (getD w 4 0) (take 5120 (drop 59400 w)) (f .fits) (table-zeros 5 (getD w 4 0) (take 5120 (drop 59400 w)) (t .ids-table)) tt);
         count = sym (ids-laws .counted (getD w 4 0) (take 5120 (drop 59400 w)));
         asc = subst (λ (l : List Cell). Asc below l) (sym (ids-keys (getD w 4 0) (take 5120 (drop 59400 w)))) (f .asc);
-        fits = f .fits }
+        fits = f .fits;
+      }
 
   few-rows : length ids ≤ 1024
   few-rows = let t = tabled w long two in let f = t .few-ids in omega (arith, ids-laws .counted (getD w 4 0) (take 5120 (drop 59400 w)))

@@ -1,5 +1,5 @@
 -- What points 3 and 4 are computed by.
-use Prim.Native.Nat.{ℕ, _+_, _*_, _≤_, _<_}
+use Prim.Native.Nat.{ℕ, _*_, _≤_}
 use native.Mathlib.Omega.{arith}
 use mathlib.Core.Path.{_≡_, refl, sym, ap, _∙_, subst}
 use mathlib.Core.Bool.{Bool, true, false, _&&_, _||_}
@@ -8,8 +8,7 @@ use lib.Dec.{T, ltb}
 use lib.ListN.{length, take, drop, getD}
 use Rattle.component.specs.Adjacent.{hasRoom}
 use Rattle.component.specs.Tests.{both}
-use Rattle.component.specs.Touch.{touches}
-use Rattle.model.specs.Lists.{all, each, whilst, keys, values}
+use Rattle.model.specs.Lists.{all, whilst, keys, values}
 use Rattle.model.specs.Cells.{Cell, below, touch26}
 use Rattle.model.specs.Consistent.{listExact}
 use Rattle.model.specs.Laws.Tests.{T-true, true-of}
@@ -22,7 +21,7 @@ use Rattle.model.specs.Laws.Shared.{sharedIn}
 use Rattle.table.specs.Rows.{cell, areZero, table4, isTable4}
 use Rattle.table.specs.Images.{table-facts}
 use Rattle.layout.specs.Rows.{neighbourOf, listCells, cellOf, cellsIn, idsIn}
-use Rattle.layout.specs.State.{decode, cellWords, idWords}
+use Rattle.layout.specs.State.{decode, cellWords}
 use Rattle.layout.specs.Points.{listTidy, longEnough, point2, point3, point4}
 use Rattle.layout.specs.Facts.{Tidied}
 use Rattle.layout.specs.ImageLaws.{cells-laws}
@@ -32,8 +31,8 @@ use Rattle.scans.specs.Readings.{cells-keys}
 use Rattle.lists_check.specs.Lists.{listRight, rowRight}
 use Rattle.lists_check.specs.Numbers.{right-bare}
 use Rattle.lists_check.specs.RowLists.{rows-are}
-use Rattle.consistent.specs.Wholes.{cells-part, ids-part, cells-length, ids-length}
-use Rattle.consistent.specs.PointLaws.{Tabled, tabled}
+use Rattle.consistent.specs.Wholes.{cells-part, ids-part, ids-length}
+use Rattle.consistent.specs.PointLaws.{tabled}
 use Rattle.consistent.specs.CellLaws.{table-zeros, point2-keys, point2-count}
 
 -- Rows whose lists are right stand for cells whose lists are exact.
@@ -93,7 +92,8 @@ module _ (m : ℕ) (s : List ℕ) (ok : isTable4 30 m s ≡ true) (right : all (
         fits = f .fits;
         asc = subst (λ (l : List Cell). Asc below l) (sym (cells-keys m s)) (f .asc);
         exact = list-exact;
-        room = list-room }
+        room = list-room;
+      }
 
 module _ (w : List ℕ) where
   abbrev m : ℕ
@@ -110,7 +110,7 @@ module _ (w : List ℕ) where
   unfolding point3 decode cellsIn
   point3-is =
       let k : keys (table4 30 m C) ≡ keys (cellsIn m (cellWords w)) =
-          ap (λ s. keys (table4 30 m s)) (cells-part w) ∙ sym (cells-keys m (cellWords w)) in
+      ap (λ s. keys (table4 30 m s)) (cells-part w) ∙ sym (cells-keys m (cellWords w)) in
       rows-are (keys (table4 30 m C)) (table4 30 m C)
       ∙ (λ i. all listTidy (values (table4 30 m (cells-part w i))) && all (λ (p : Cell × List Cell). listExact touch26 (k i) (p .0) (p .1)) (cellsIn m (cells-part w i)))
 

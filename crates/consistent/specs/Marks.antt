@@ -1,27 +1,27 @@
 -- Rows that are marked, and what marks say of the cells where entities stand.
-use Prim.Native.Nat.{ℕ, suc, _+_, _*_, _≤_, _<_}
+use Prim.Native.Nat.{ℕ, _+_, _*_, _≤_, _<_}
 use native.Mathlib.Numerals.{add-one}
 use native.Mathlib.Omega.{arith}
 use mathlib.Core.Path.{_≡_, refl, sym, ap, _∙_, subst}
 use mathlib.Core.Logic.{⊎-elim}
-use mathlib.Core.Bool.{Bool, true, false, _&&_, _||_}
+use mathlib.Core.Bool.{Bool, true, false, _||_}
 use mathlib.Core.List.{List, [], _∷_, _++_, List·Memᴰ as Mem}
 use lib.Dec.{T, T-not, not-T, ltb}
-use lib.ListN.{length, take, drop, getD, set, replicate, length-replicate, getD-replicate}
-use lib.Seq.{take-suc, getD-set-same, getD-set-other, getD-take, take-all, length-take-le}
+use lib.ListN.{length, take, getD, set, replicate, length-replicate, getD-replicate}
+use lib.Seq.{take-suc, getD-set-same, getD-set-other, getD-take, length-take-le}
 use Rattle.model.specs.Lists.{any, all, has, equal, keys, ascending}
 use Rattle.model.specs.Cells.{Cell, same, below}
 use Rattle.model.specs.Laws.Tests.{T-true, T-false, true-of, false-of, same-test}
-use Rattle.model.specs.Laws.Orders.{Ordered, cells, numbers, is-or, differ}
+use Rattle.model.specs.Laws.Orders.{cells, numbers, is-or, differ}
 use Rattle.model.specs.Laws.Members.{all-in, all-out, has-of, of-has, equal-in, equal-out}
-use Rattle.model.specs.Laws.Sorted.{Asc, asc-equal, ascending-asc, ascending-in, ascending-out}
+use Rattle.model.specs.Laws.Sorted.{asc-equal, ascending-asc, ascending-in, ascending-out}
 use Rattle.flood.specs.Lines.{getD-mem, mem-getD, asc-index}
-use Rattle.table.specs.declared.Place.the-variants.{Found, Missing}
+use Rattle.table.specs.declared.Place.the-variants.{Found}
 use Rattle.table.specs.Rows.{cell, cellAt, table4, isTable4, placeOf}
 use Rattle.table.specs.Kinds.{cell-lawful}
 use Rattle.table.specs.Images.{table-facts}
 use Rattle.table.specs.Answers.{found-below, found-is}
-use Rattle.scans.specs.Scans.{Lines, lines-of, lines-at}
+use Rattle.scans.specs.Scans.{Lines, lines-at}
 use Rattle.scans.specs.Readings.{key-lines}
 
 -- Of the first m rows those are marked whose cell is in a list.
@@ -97,13 +97,13 @@ module _ (s : List ℕ) (m : ℕ) (ok : isTable4 30 m s ≡ true) where
       now k g =
           ⊎-elim
           (λ p.
-            ap (λ x. ltb 0 (getD (set marks j 1) x 0)) p
-            ∙ ap (ltb 0) (getD-set-same marks j 1 0 (let b = found-below cell cell-lawful 30 m s (e i) j f in omega arith))
-            ∙ sym (has-more (at k) ∙ ap (λ b. has same (take i l) (at k) || b) (true-of (same (at k) (e i)) (subst (λ x. T (same (at k) x)) (ap at p ∙ there) (cells .same-self (at k)))) ∙ or-true (has same (take i l) (at k))))
+          ap (λ x. ltb 0 (getD (set marks j 1) x 0)) p
+          ∙ ap (ltb 0) (getD-set-same marks j 1 0 (let b = found-below cell cell-lawful 30 m s (e i) j f in omega arith))
+          ∙ sym (has-more (at k) ∙ ap (λ b. has same (take i l) (at k) || b) (true-of (same (at k) (e i)) (subst (λ x. T (same (at k) x)) (ap at p ∙ there) (cells .same-self (at k)))) ∙ or-true (has same (take i l) (at k))))
           (λ p.
-            ap (ltb 0) (getD-set-other marks j k 1 0 p)
-            ∙ q .is k g
-            ∙ sym (has-more (at k) ∙ ap (λ b. has same (take i l) (at k) || b) (false-of (same (at k) (e i)) (differ cells (λ x. p (rows-differ k j g (found-below cell cell-lawful 30 m s (e i) j f) (x ∙ sym there))))) ∙ or-false (has same (take i l) (at k))))
+          ap (ltb 0) (getD-set-other marks j k 1 0 p)
+          ∙ q .is k g
+          ∙ sym (has-more (at k) ∙ ap (λ b. has same (take i l) (at k) || b) (false-of (same (at k) (e i)) (differ cells (λ x. p (rows-differ k j g (found-below cell cell-lawful 30 m s (e i) j f) (x ∙ sym there))))) ∙ or-false (has same (take i l) (at k))))
           (is-or numbers k j)
 
   -- Where some entity's cell has no row, the cells are not those where entities stand.
@@ -134,10 +134,10 @@ module _ (s : List ℕ) (m : ℕ) (ok : isTable4 30 m s ≡ true) where
           equal-in same (cells .same-self)
           (asc-equal cells K (ascending below l) (table-facts cell 30 m s ok .asc) (ascending-asc cells l)
           (λ a k.
-            let r = mem-getD K (at 0) k in
-            let g : length K ≡ m = keyed .len in
-            let h : r .0 < m = omega (arith, r .1, g) in
-            ascending-in cells l (subst (λ x. Mem x l) (sym (lines-at keyed (r .0) h (at 0)) ∙ r .2) (marked (r .0) h t)))
+          let r = mem-getD K (at 0) k in
+          let g : length K ≡ m = keyed .len in
+          let h : r .0 < m = omega (arith, r .1, g) in
+          ascending-in cells l (subst (λ x. Mem x l) (sym (lines-at keyed (r .0) h (at 0)) ∙ r .2) (marked (r .0) h t)))
           (λ a k. of-has cells K (all-out (has same K) l (T-true e) (ascending-out cells l k))))
 
       from : T (equal same K (ascending below l)) → T (all (ltb 0) (take m marks))

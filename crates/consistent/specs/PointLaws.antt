@@ -6,23 +6,23 @@ use mathlib.Core.Bool.{Bool, true, false, _&&_, not}
 use mathlib.Core.List.{List, [], _∷_, List·Memᴰ as Mem}
 use lib.Dec.{T, T-not, not-T, eqb, leb, ltb}
 use lib.ListN.{length, take, drop, getD}
-use borrow.Author.Tests.{leb-true, le-leb, lt-leb}
+use borrow.Author.Tests.{leb-true, le-leb}
 use Rattle.component.specs.Tests.{both, leb-same}
-use Rattle.model.specs.Lists.{all, has, equal, keys, values, isAscending, ascending}
+use Rattle.model.specs.Lists.{all, has, equal, keys, values, isAscending}
 use Rattle.model.specs.Cells.{Cell, same, below, cellInRange}
 use Rattle.model.specs.Update.{mostEntities, mostCells}
-use Rattle.model.specs.Consistent.{cellsExact, standing}
+use Rattle.model.specs.Consistent.{standing}
 use Rattle.model.specs.Laws.Tests.{T-true, true-of, false-of}
 use Rattle.model.specs.Laws.Orders.{cells}
-use Rattle.model.specs.Laws.Members.{all-out, each-length, equal-out}
+use Rattle.model.specs.Laws.Members.{all-out, equal-out}
 use Rattle.model.specs.Laws.Sorted.{Asc, isAscending-in, ascending-asc}
 use Rattle.flood.specs.Lines.{getD-mem}
-use Rattle.table.specs.Rows.{number, cell, cellAt, areZero, table1, table4, isTable1, isTable4, isTableOf}
+use Rattle.table.specs.Rows.{cell, cellAt, areZero, table1, table4, isTable1, isTable4, isTableOf}
 use Rattle.table.specs.Words.{keys-length}
 use Rattle.layout.specs.Rows.{entitiesIn, cellsIn, netIn, idsIn}
-use Rattle.layout.specs.State.{decode, entityWords, cellWords, occupiedWords, emptiedWords, idWords, groupWords}
+use Rattle.layout.specs.State.{decode, entityWords, cellWords, idWords}
 use Rattle.layout.specs.Points.{tidy, longEnough, point1, point2, point6, point7, point8}
-use Rattle.layout.specs.ImageLaws.{entities-laws, net-laws}
+use Rattle.layout.specs.ImageLaws.{entities-laws}
 use Rattle.scans.specs.Scans.{Lines, lines-at}
 use Rattle.scans.specs.Readings.{net-lines, cells-keys, ids-keys, entities-keys}
 use Rattle.consistent.specs.Wholes.{entities-part, cells-part, occupied-part, emptied-part, ids-part, entities-length, cells-length, occupied-length, emptied-length, ids-length}
@@ -96,15 +96,16 @@ tabled w long e =
       few-cells = m;
       few-ids = k;
       cells-table =
-        tidy-table 30 (getD w 1 0) (take 30720 (drop 20488 w)) st (omega arith) (omega arith)
-        (ap (λ s. areZero (drop (30 * getD w 1 0) s)) (cells-part w) ∙ p .1)
-        (ap (λ s. keys (table4 30 (getD w 1 0) s)) (cells-part w) ∙ sym (cells-keys (getD w 1 0) (cellWords w)) ∙ equal-out same (cells .same-eq) _ _ (T-true (c .1)))
-        asc;
+          tidy-table 30 (getD w 1 0) (take 30720 (drop 20488 w)) st (omega arith) (omega arith)
+          (ap (λ s. areZero (drop (30 * getD w 1 0) s)) (cells-part w) ∙ p .1)
+          (ap (λ s. keys (table4 30 (getD w 1 0) s)) (cells-part w) ∙ sym (cells-keys (getD w 1 0) (cellWords w)) ∙ equal-out same (cells .same-eq) _ _ (T-true (c .1)))
+          asc;
       ids-table =
-        tidy-table 5 (getD w 4 0) (take 5120 (drop 59400 w)) st (omega arith) (omega arith)
-        (ap (λ s. areZero (drop (5 * getD w 4 0) s)) (ids-part w) ∙ q .1)
-        (ap (λ s. keys (table4 5 (getD w 4 0) s)) (ids-part w) ∙ sym (ids-keys (getD w 4 0) (idWords w)) ∙ equal-out same (cells .same-eq) _ _ (T-true (c .0)))
-        asc }
+          tidy-table 5 (getD w 4 0) (take 5120 (drop 59400 w)) st (omega arith) (omega arith)
+          (ap (λ s. areZero (drop (5 * getD w 4 0) s)) (ids-part w) ∙ q .1)
+          (ap (λ s. keys (table4 5 (getD w 4 0) s)) (ids-part w) ∙ sym (ids-keys (getD w 4 0) (idWords w)) ∙ equal-out same (cells .same-eq) _ _ (T-true (c .0)))
+          asc;
+    }
 
 -- What point 6 is computed by.
 pub point6-is : (w : List ℕ) → all (λ g. ltb g (getD w 6 0)) (values (idsIn (getD w 4 0) (take 5120 (drop 59400 w)))) ≡ point6 w
@@ -176,7 +177,7 @@ pub point8-is : (w : List ℕ) → longEnough w ≡ true
 unfolding point8 decode
 point8-is w long =
     let k : keys (table4 30 (getD w 1 0) (take 30720 (drop 20488 w))) ≡ keys (cellsIn (getD w 1 0) (cellWords w)) =
-        ap (λ s. keys (table4 30 (getD w 1 0) s)) (cells-part w) ∙ sym (cells-keys (getD w 1 0) (cellWords w)) in
+    ap (λ s. keys (table4 30 (getD w 1 0) s)) (cells-part w) ∙ sym (cells-keys (getD w 1 0) (cellWords w)) in
     nets-are (getD w 2 0) (getD w 3 0) (take 4096 (drop 51208 w)) (take 4096 (drop 55304 w)) _ (occupied-length w long) (emptied-length w long)
     ∙ (λ i. tidy 4 mostCells (getD w 2 0) (occupied-part w i) && (tidy 4 mostCells (getD w 3 0) (emptied-part w i)
     && (isAscending below (netIn (getD w 2 0) (occupied-part w i)) && (isAscending below (netIn (getD w 3 0) (emptied-part w i))

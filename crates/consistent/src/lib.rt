@@ -1,7 +1,11 @@
 // Whether the words of a lent state are consistent: the eight points of consistency, in their order.
 use component::Cell;
 use scans::holds;
-use table::{cell_at, find4, is_table1, is_table4, Place};
+use table::Place;
+use table::cell_at;
+use table::find4;
+use table::is_table1;
+use table::is_table4;
 ghost use mathlib.Core.Path.{_≡_};
 ghost use mathlib.Core.Bool.{true, cond, _&&_, not};
 ghost use mathlib.Core.List.{List};
@@ -216,7 +220,8 @@ pub fn coordinates_in_range(state: &[u64]) -> bool
         return false;
     }
     cells_in_range(ents, 5, 1, state[0] as usize)
-        & (cells_in_range(occupied, 4, 0, state[2] as usize) & cells_in_range(emptied, 4, 0, state[3] as usize))
+        & (cells_in_range(occupied, 4, 0, state[2] as usize)
+            & cells_in_range(emptied, 4, 0, state[3] as usize))
 }
 
 // Whether each of n cells is among those of m rows; or, where `wanted` is not set, none is.

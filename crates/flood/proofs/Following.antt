@@ -1,15 +1,14 @@
 -- How far the following of a list is.
-use Prim.Native.Nat.{ℕ, suc, _+_, _≤_, _<_}
+use Prim.Native.Nat.{ℕ, _+_, _≤_, _<_}
 use native.Mathlib.Numerals.{add-one}
 use native.Mathlib.Omega.{arith}
-use mathlib.Core.Path.{_≡_, refl, sym, _∙_, ap, subst}
-use mathlib.Core.Bool.{true, false}
-use mathlib.Core.List.{List, [], _∷_}
+use mathlib.Core.Path.{_≡_, refl, sym, _∙_, ap}
+use mathlib.Core.List.{List, _∷_}
 use borrow.Author.Tests.{eq-eqb, ne-eqb}
 use lib.ListN.{length, drop, getD, set, length-set, drop-of-length-le}
 use lib.Seq.{drop-cons}
 use Rattle.flood.specs.Fronts.{Front, front, pushed}
-use Rattle.flood.specs.Pushes.{isOpen, onto, pushed-old, pushed-new, pushed-none, pushed-grows}
+use Rattle.flood.specs.Pushes.{onto, pushed-old, pushed-new, pushed-none, pushed-grows}
 
 -- From the front f₀ the first k of the rows L are pushed.
 pub record Going (label : ℕ) (L : List ℕ) (f₀ : Front) (k : ℕ) (f : Front) : Type 0 where
@@ -49,4 +48,5 @@ module _ (label : ℕ) (L : List ℕ) (f₀ : Front) where
           record {
             left = ap (λ (m : ℕ). pushed label (front m (set (f .marks) j label) (set (f .queue) (f .end) j)) (drop (k + 1) L)) (add-one (f .end)) ∙ turned;
             marksKept = length-set (f .marks) j label ∙ g .marksKept;
-            queueKept = length-set (f .queue) (f .end) j ∙ g .queueKept }
+            queueKept = length-set (f .queue) (f .end) j ∙ g .queueKept;
+          }

@@ -10,7 +10,7 @@ use mathlib.Core.List.{List, [], _∷_, _++_, append-assoc, append-nil, List·Me
 use borrow.Author.Tests.{eq-eqb, ne-eqb}
 use lib.Dec.{eqb}
 use lib.ListN.{length, take, drop, getD, set, length-set, length-append, length-drop, take-append-drop, List·getD-append, drop-of-length-le}
-use lib.Seq.{length-take-le, getD-take, take-suc, drop-cons, take-append-le, drop-append-le, take-all, take-suc-set, drop-set-lt, drop-drop, set-set, set-getD}
+use lib.Seq.{length-take-le, getD-take, take-suc, drop-cons, take-append-le, drop-append-le, take-all, drop-set-lt, drop-drop, set-set, set-getD}
 use Rattle.model.specs.Lists.{keep, has, each, keys}
 use Rattle.model.specs.Cells.{Cell, same}
 use Rattle.model.specs.Flood.{listOf, visit}
@@ -25,8 +25,8 @@ use Rattle.flood.specs.Rows.{rowCell, onward}
 use Rattle.flood.specs.Fronts.{Front, front, pushed}
 use Rattle.flood.specs.Standing.{Cells, floodFrom, Floodable, Flooded}
 use Rattle.flood.specs.Lines.{getD-mem}
-use Rattle.flood.specs.Reads.{cells-table, cells-read, row-occupied, lists-once, lists-in, onward-cells, onward-under, onward-once}
-use Rattle.flood.specs.Pushes.{isOpen, fresh, Pushed, onto, pushed-one, pushed-all}
+use Rattle.flood.specs.Reads.{cells-read, row-occupied, lists-once, lists-in, onward-cells, onward-under, onward-once}
+use Rattle.flood.specs.Pushes.{isOpen, fresh, Pushed, pushed-one, pushed-all}
 use Rattle.flood.proofs.Marking.{marks-more}
 
 -- The rows that are queued.
@@ -66,7 +66,8 @@ canon words n seed label marks queue a =
       labelled = a .labelled;
       marksFit = a .marksFit;
       queueFits = a .queueFits;
-      unmarked = λ j h m. a .unmarked j h (subst (λ t. Mem (rowCell words j) (floodFrom t n (rowCell words seed))) (cells-read words n (a .table) (a .cells)) m) }
+      unmarked = λ j h m. a .unmarked j h (subst (λ t. Mem (rowCell words j) (floodFrom t n (rowCell words seed))) (cells-read words n (a .table) (a .cells)) m);
+    }
 
 module _ (words : List ℕ) (n seed label : ℕ) (marks₀ queue₀ : List ℕ) (a : Floodable words n seed label marks₀ queue₀) where
   abbrev t : List (Cell × List Cell)
@@ -92,7 +93,7 @@ module _ (words : List ℕ) (n seed label : ℕ) (marks₀ queue₀ : List ℕ) 
       let l = length-set queue₀ 0 seed in
       let z : n - 0 ≡ n = omega arith in
       let p : Pushed label n (front 0 marks₀ queue₀) (seed ∷ []) (front 1 (set marks₀ seed label) (set queue₀ 0 seed)) =
-          pushed-one label n (front 0 marks₀ queue₀) seed s (a .marksFit) (omega (arith, a .queueFits)) in
+      pushed-one label n (front 0 marks₀ queue₀) seed s (a .marksFit) (omega (arith, a .queueFits)) in
       record {
         ends = omega arith;
         fits = omega (arith, a .queueFits);
@@ -103,7 +104,8 @@ module _ (words : List ℕ) (n seed label : ℕ) (marks₀ queue₀ : List ℕ) 
         behind = drop-set-lt 1 queue₀ 0 seed (omega arith);
         beyond = drop-set-lt n marks₀ seed label s;
         marksKept = length-set marks₀ seed label;
-        queueKept = l }
+        queueKept = l;
+      }
 
   module _ (h : ℕ) (f : Front) (w : Wave words n t seed label marks₀ queue₀ h f) where
     Q-long : length (queued f) ≡ f .end
@@ -115,6 +117,10 @@ module _ (words : List ℕ) (n seed label : ℕ) (marks₀ queue₀ : List ℕ) 
     -- At most n rows are queued.
     pub wave-few : f .end ≤ n
     wave-few = omega (arith, C-long, keys-long, once-shorter (w .once) (keys t) (occupied (queued f) (w .under)))
+
+    -- Every row has a mark.
+    pub wave-fits : n ≤ length (f .marks)
+    wave-fits = omega (arith, a .marksFit, w .marksKept)
 
     -- Once all queued rows are done, the flood is.
     pub wave-end : f .end ≤ h → Flooded words n seed label marks₀ queue₀ (f .end) (f .marks) (f .queue) t
@@ -128,7 +134,8 @@ module _ (words : List ℕ) (n seed label : ℕ) (marks₀ queue₀ : List ℕ) 
           reached = λ j g. w .marks j g ∙ ap (λ l. cond (has same l (rowCell words j)) label (getD marks₀ j 0)) all;
           beyond = w .beyond;
           marksKept = w .marksKept;
-          queueKept = w .queueKept }
+          queueKept = w .queueKept;
+        }
       where
         all : cellsOf (queued f) ≡ F
         all =
@@ -162,9 +169,18 @@ module _ (words : List ℕ) (n seed label : ℕ) (marks₀ queue₀ : List ℕ) 
 
       enough : length (cellsOf (drop h (queued f))) + length (minus same (keys t) Qc) ≤ n - h
       enough =
-          omega (arith, b, each-length (rowCell words) (drop h (queued f)), length-drop h (queued f), Q-long, C-long, keys-long, length-append Qc (minus same (keys t) Qc),
+          omega (
+            arith,
+            b,
+            each-length (rowCell words) (drop h (queued f)),
+            length-drop h (queued f),
+            Q-long,
+            C-long,
+            keys-long,
+            length-append Qc (minus same (keys t) Qc),
             once-shorter (once-append Qc (minus same (keys t) Qc) (w .once) (once-keep _ (keys t) (asc-once cells (a .cells .asc))) (λ d m j. minus-out cells (keys t) Qc j .1 m))
-            (keys t) (λ d m. ⊎-elim (occupied (queued f) (w .under) d) (λ j. minus-out cells (keys t) Qc j .0) (append-cases Qc m)))
+                (keys t) (λ d m. ⊎-elim (occupied (queued f) (w .under) d) (λ j. minus-out cells (keys t) Qc j .0) (append-cases Qc m)),
+          )
 
       come : {d : Cell} → Mem d (cellsOf (drop h (queued f))) → Mem d (visit t (n - h) (cellsOf (drop h (queued f))) Qc)
       come m = visit-queued t (lists-once words n t (a .cells)) (keys t) (asc-once cells (a .cells .asc)) (lists-in words n t (a .cells)) (n - h) (cellsOf (drop h (queued f))) Qc enough m
@@ -181,7 +197,7 @@ module _ (words : List ℕ) (n seed label : ℕ) (marks₀ queue₀ : List ℕ) 
           ⊎-elim visited
           (λ j. ⊎-elim (λ k. subst (λ l. Mem d l) (w .walk) (append-left _ k)) (λ k. visited (come k)) (append-cases (cellsOf (take h (queued f))) (subst (λ l. Mem d l) splits j)))
           (visit-closed t (lists-once words n t (a .cells)) (keys t) (asc-once cells (a .cells .asc)) (lists-in words n t (a .cells)) (n - h) (cellsOf (drop h (queued f))) Qc enough
-            (come (subst (λ l. Mem c (cellsOf l)) (sym ahead) (head refl))) m)
+          (come (subst (λ l. Mem c (cellsOf l)) (sym ahead) (head refl))) m)
 
       -- A row of the list is unmarked if its cell is not queued.
       unmarked-is : (j : ℕ) → Mem j L → isOpen (f .marks) j ≡ not (has same Qc (rowCell words j))
@@ -206,8 +222,15 @@ module _ (words : List ℕ) (n seed label : ℕ) (marks₀ queue₀ : List ℕ) 
 
       more-few : f .end + length (fresh f L) ≤ n
       more-few =
-          omega (arith, C-long, keys-long, length-append Qc new, ap length new-are, each-length (rowCell words) (fresh f L),
-            once-shorter more-once (keys t) (λ d m. ⊎-elim (occupied (queued f) (w .under) d) (λ j. lists-in words n t (a .cells) c d (minus-out cells (listOf t c) Qc j .0)) (append-cases Qc m)))
+          omega (
+            arith,
+            C-long,
+            keys-long,
+            length-append Qc new,
+            ap length new-are,
+            each-length (rowCell words) (fresh f L),
+            once-shorter more-once (keys t) (λ d m. ⊎-elim (occupied (queued f) (w .under) d) (λ j. lists-in words n t (a .cells) c d (minus-out cells (listOf t c) Qc j .0)) (append-cases Qc m)),
+          )
 
       pushes : Pushed label n f (fresh f L) (pushed label f L)
       pushes =
@@ -218,9 +241,9 @@ module _ (words : List ℕ) (n seed label : ℕ) (marks₀ queue₀ : List ℕ) 
       pub wave-space : pushed label f L .end ≤ length (f .queue)
       wave-space = omega (arith, pushes .end, more-few, a .queueFits, w .queueKept)
 
-      -- The rows of the list have marks.
-      pub wave-there : (j : ℕ) → Mem j L → j < length (f .marks)
-      wave-there j m = omega (arith, onward-under words n t (a .cells) i wave-row j m, a .marksFit, w .marksKept)
+      -- The rows of the list are there.
+      pub wave-there : (j : ℕ) → Mem j L → j < n
+      wave-there = onward-under words n t (a .cells) i wave-row
 
       abbrev g : Front
       g = pushed label f L
@@ -273,7 +296,8 @@ module _ (words : List ℕ) (n seed label : ℕ) (marks₀ queue₀ : List ℕ) 
             behind = pushes .behind ∙ deeper;
             beyond = pushes .beyond ∙ w .beyond;
             marksKept = pushes .marksKept ∙ w .marksKept;
-            queueKept = pushes .queueKept ∙ w .queueKept }
+            queueKept = pushes .queueKept ∙ w .queueKept;
+          }
         where
           deeper : drop (g .end) (f .queue) ≡ drop (g .end) queue₀
           deeper =
@@ -305,7 +329,8 @@ module _ (words : List ℕ) (n seed label : ℕ) (marks queue : List ℕ) (a : F
         labelled = a .labelled;
         marksFit = subst (λ l. n ≤ length l) (sym marks-back) (a .marksFit);
         queueFits = subst (λ m. n ≤ m) (sym (length-set queue 0 seed)) (a .queueFits);
-        unmarked = λ j h m. ap (λ l. getD l j 0) marks-back ∙ a .unmarked j h m }
+        unmarked = λ j h m. ap (λ l. getD l j 0) marks-back ∙ a .unmarked j h m;
+      }
 
   -- The flood begins.
   pub wave-begun : Wave words n (a .table) seed label (set (set marks seed label) seed 0) (set queue 0 seed) 0 (front 1 (set marks seed label) (set queue 0 seed))
@@ -328,7 +353,8 @@ module _ (words : List ℕ) (n seed label : ℕ) (marks queue : List ℕ) (a : F
         reached = λ j h. d .reached j h ∙ ap (λ l. cond (has same (floodFrom (a .table) n (rowCell words seed)) (rowCell words j)) label (getD l j 0)) marks-back;
         beyond = d .beyond ∙ ap (drop n) marks-back;
         marksKept = d .marksKept ∙ ap length marks-back;
-        queueKept = d .queueKept ∙ length-set queue 0 seed })
+        queueKept = d .queueKept ∙ length-set queue 0 seed;
+      })
     where
       some : 0 < r
       some = omega (arith, d .number, ap length (flood-first .1))

@@ -1,13 +1,12 @@
 -- An answer is written cell by cell.
-use Prim.Native.Nat.{ℕ, suc, _+_, _*_, _≤_, _<_}
-use native.Mathlib.Nat.{zero-add}
+use Prim.Native.Nat.{ℕ, _+_, _*_, _≤_, _<_}
 use native.Mathlib.Numerals.{add-one}
 use native.Mathlib.Omega.{arith}
 use mathlib.Core.Path.{_≡_, refl, sym, _∙_, ap}
 use mathlib.Core.List.{List, [], _∷_, _++_, append-assoc, append-nil}
 use lib.ListN.{length, take, drop, getD, length-append, length-drop}
 use lib.Seq.{take-suc, take-append-seam, drop-append-add, drop-drop, length-take-le, take-all, getD-take}
-use Rattle.model.specs.Lists.{gather, each}
+use Rattle.model.specs.Lists.{gather}
 use Rattle.model.specs.Cells.{Cell}
 use Rattle.model.specs.Laws.Members.{gather-append, each-length}
 use Rattle.table.specs.Moves.{over}

@@ -32,5 +32,6 @@ pushed label f l = run (push label) f l
 pub record Followable (words : List ℕ) (n i label : ℕ) (f : Front) : Type 0 where
   pub table : isTable4 30 n words ≡ true
   pub row : i < n
-  pub there : (j : ℕ) → Mem j (onward words n i) → j < length (f .marks)
+  pub there : (j : ℕ) → Mem j (onward words n i) → j < n
+  pub fits : n ≤ length (f .marks)
   pub space : pushed label f (onward words n i) .end ≤ length (f .queue)

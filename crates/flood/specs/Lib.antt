@@ -8,3 +8,5 @@ pub mod Reads
 pub mod Pushes
 pub mod Answers
 pub mod Filling
+pub mod Meets
+pub mod Examples

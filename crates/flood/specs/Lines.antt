@@ -1,15 +1,15 @@
 -- Facts on lists: members by their number, and the members up to the first that fails.
-use Prim.Native.Nat.{ℕ, zero, suc, _+_, _≤_, _<_}
+use Prim.Native.Nat.{ℕ, zero, suc, _<_}
 use native.Mathlib.Nat.{le-of-suc-le-suc, not-suc-le-zero}
 use native.Mathlib.Omega.{arith}
 use mathlib.Core.Path.{_≡_, refl, sym, _∙_, ap, subst}
 use mathlib.Core.Logic.{⊎-elim}
-use mathlib.Core.Bool.{Bool, true, false, cond, not, _||_}
+use mathlib.Core.Bool.{Bool, true, false, cond}
 use mathlib.Core.List.{List, [], _∷_, _++_, List·Memᴰ as Mem, List·Memᴰ·head as head, List·Memᴰ·tail as tail, List·Memᴰ·cases-cons as mem-cons, List·Memᴰ·not-nil as mem-nil}
-use lib.Dec.{T, ltb, eqb}
+use lib.Dec.{T, ltb}
 use lib.ListN.{length, take, drop, getD, replicate}
-use Rattle.model.specs.Lists.{has, each, whilst}
-use Rattle.model.specs.Laws.Tests.{cond-yes, cond-no, T-true}
+use Rattle.model.specs.Lists.{each, whilst}
+use Rattle.model.specs.Laws.Tests.{cond-yes}
 use Rattle.model.specs.Laws.Orders.{Ordered, order-cases, numbers}
 use Rattle.model.specs.Laws.Sorted.{Asc, asc-head, asc-tail}
 

@@ -1,12 +1,12 @@
 -- The words of a row's list by their number.
-use Prim.Native.Nat.{ℕ, zero, suc, _+_, _-_, _*_, _≤_, _<_}
+use Prim.Native.Nat.{ℕ, zero, suc, _+_, _*_, _≤_, _<_}
 use native.Mathlib.Omega.{arith}
-use mathlib.Core.Path.{_≡_, refl, sym, _∙_, ap}
-use mathlib.Core.Bool.{true, false}
+use mathlib.Core.Path.{_≡_, refl, _∙_, ap}
+use mathlib.Core.Bool.{true}
 use mathlib.Core.List.{List, _∷_}
 use borrow.Author.Tests.{lt-ltb, le-ltb}
 use lib.Dec.{ltb}
-use lib.ListN.{length, take, drop, getD, length-take, length-drop}
+use lib.ListN.{length, take, drop, getD, length-drop}
 use lib.Seq.{getD-take, getD-drop, length-take-le}
 use Rattle.model.specs.Cells.{Cell}
 use Rattle.model.specs.Laws.Members.{each-length, whilst-shorter}
@@ -18,6 +18,11 @@ use Rattle.flood.specs.Lines.{each-at, whilst-at, whilst-stop, whilst-fu
 pub onward-length : (s : List ℕ) (n i : ℕ) → length (onward s n i) ≡ length (rowNumbers s i)
 unfolding onward
 onward-length s n i = each-length (λ w. rowFor s n (neighbourOf (rowCell s i) w)) (rowNumbers s i)
+
+-- The list of row i is as long as its numbers.
+pub list-length : (s : List ℕ) (i : ℕ) → length (rowList s i) ≡ length (rowNumbers s i)
+unfolding rowList
+list-length s i = each-length (neighbourOf (rowCell s i)) (rowNumbers s i)
 
 module _ (s : List ℕ) (i : ℕ) (h : 30 * i + 30 ≤ length s) where
   words-long : length (rowWords s i) ≡ 26

@@ -1,13 +1,13 @@
 -- The number of a neighbour leads back to that neighbour.
-use Prim.Native.Nat.{ℕ, suc, _+_, _-_, _*_, _/_, _%_, _≤_, _<_}
+use Prim.Native.Nat.{ℕ, suc, _+_, _-_, _/_, _%_, _≤_, _<_}
 use native.Mathlib.Omega.{arith}
 use mathlib.Core.Path.{_≡_, refl, sym, _∙_, ap}
 use mathlib.Core.Bool.{Bool, true, false, cond, _&&_}
 use borrow.Author.Tests.{ltb-true, ltb-false, lt-ltb, le-ltb}
-use lib.Dec.{T, ltb, lt→ltb}
-use Rattle.component.specs.Adjacent.{hasRoom, adjacentOf, Room}
+use lib.Dec.{T, ltb}
+use Rattle.component.specs.Adjacent.{hasRoom}
 use Rattle.component.specs.AdjacentLaws.{room-axes}
-use Rattle.component.specs.Around.{stepN, place, neighbourAt, neighbourCount, Within}
+use Rattle.component.specs.Around.{stepN, place, neighbourAt, Within}
 use Rattle.component.specs.TouchLaws.{touches-within}
 use Rattle.component.specs.declared.Neighbour.the-variants.{Is, Nothing}
 use Rattle.model.specs.Cells.{Cell, touch26}
@@ -48,6 +48,7 @@ module _ (c d : Cell) (room : hasRoom 1 c ≡ true) (t : T (touch26 c d)) where
     where
       p : ℕ
       p = placeIn c d
+
       go : (b : Bool) → ltb p 13 ≡ b → stepN 13 (cond b (suc p) p - 1) ≡ p
       go true e =
           let q : suc p - 1 ≡ p = omega arith in

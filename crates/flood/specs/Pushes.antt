@@ -1,5 +1,5 @@
 -- What is marked and queued once some rows are pushed.
-use Prim.Native.Nat.{ℕ, zero, suc, _+_, _≤_, _<_}
+use Prim.Native.Nat.{ℕ, suc, _+_, _≤_, _<_}
 use native.Mathlib.Nat.{add-zero}
 use native.Mathlib.Omega.{arith}
 use mathlib.Core.Path.{_≡_, refl, sym, _∙_, ap, subst}
@@ -11,7 +11,7 @@ use lib.ListN.{length, take, drop, getD, set, length-set}
 use lib.Seq.{take-suc-set, drop-set-lt, getD-set-same, getD-set-other}
 use Rattle.model.specs.Lists.{keep, has}
 use Rattle.model.specs.Laws.Members.{keep-ext, Once, once-head, once-tail}
-use Rattle.flood.specs.Fronts.{Front, front, push, pushed}
+use Rattle.flood.specs.Fronts.{Front, front, pushed}
 
 -- Whether a row is unmarked.
 abbrev pub isOpen : List ℕ → ℕ → Bool
@@ -72,11 +72,13 @@ module _ (label : ℕ) where
           marked = λ j. p .marked j ∙ go j (eqb j x) refl;
           beyond = p .beyond ∙ drop-set-lt n (f .marks) x label h;
           marksKept = p .marksKept ∙ length-set (f .marks) x label;
-          queueKept = p .queueKept ∙ length-set (f .queue) (f .end) x }
+          queueKept = p .queueKept ∙ length-set (f .queue) (f .end) x;
+        }
       where
         twice : (b : Bool) → cond b label label ≡ label
         twice true = refl
         twice false = refl
+
         go : (j : ℕ) (b : Bool) → eqb j x ≡ b → cond (has eqb R j) label (getD (set (f .marks) x label) j 0) ≡ cond (eqb j x || has eqb R j) label (getD (f .marks) j 0)
         go j true u =
             ap (λ v. cond (has eqb R j) label v) (ap (λ i. getD (set (f .marks) x label) i 0) (eqb-true j x u) ∙ getD-set-same (f .marks) x label 0 (omega arith))
@@ -107,6 +109,7 @@ module _ (label : ℕ) where
         same-fresh =
             keep-ext (isOpen (set (f .marks) x label)) (isOpen (f .marks)) l
             (λ j k. ap (λ v. eqb v 0) (getD-set-other (f .marks) x j label 0 (λ e. once-head o (mem-cast (sym e) k))))
+
         go : (b : Bool) → f .end + length (cond b (x ∷ fresh f l) (fresh f l)) ≤ length (f .queue)
             → (suc (f .end) + length (fresh (onto f x) l) ≤ length (set (f .queue) (f .end) x) → Pushed label n (onto f x) (fresh (onto f x) l) (pushed label (onto f x) l))
             → (f .end + length (fresh f l) ≤ length (f .queue) → Pushed label n f (fresh f l) (pushed label f l))

@@ -1,11 +1,11 @@
 -- What is read of words in which a table of occupied cells stands is that table.
-use Prim.Native.Nat.{ℕ, suc, _+_, _-_, _*_, _≤_, _<_}
+use Prim.Native.Nat.{ℕ, _+_, _-_, _*_, _≤_, _<_}
 use native.Mathlib.Nat.{add-zero}
 use native.Mathlib.Omega.{arith}
 use mathlib.Core.Path.{_≡_, refl, sym, _∙_, ap, subst}
 use mathlib.Core.Logic.{⊎-elim}
-use mathlib.Core.Bool.{Bool, true}
-use mathlib.Core.List.{List, [], _∷_, _++_, List·Memᴰ as Mem, List·Memᴰ·head as head, List·Memᴰ·not-nil as mem-nil, Memᴰ·cast as mem-cast}
+use mathlib.Core.Bool.{true}
+use mathlib.Core.List.{List, [], _∷_, List·Memᴰ as Mem, List·Memᴰ·head as head, List·Memᴰ·not-nil as mem-nil, Memᴰ·cast as mem-cast}
 use lib.Dec.{T, eqb, ltb, lt→ltb}
 use lib.ListN.{length, take, drop, getD, replicate, length-append, length-replicate}
 use lib.Seq.{getD-drop}
@@ -18,19 +18,19 @@ use Rattle.model.specs.Cells.{Cell, same, below, touch26}
 use Rattle.model.specs.Flood.{orEmpty, listOf}
 use Rattle.model.specs.Laws.Tests.{true-of, eqb-of}
 use Rattle.model.specs.Laws.Orders.{cells}
-use Rattle.model.specs.Laws.Members.{all-in, each-in, each-out, each-each, each-same, each-length, key-in, mem-or, Once, once-nil, once-each, once-shorter}
+use Rattle.model.specs.Laws.Members.{all-in, each-out, each-each, each-same, each-length, key-in, mem-or, Once, once-nil, once-each, once-shorter}
 use Rattle.model.specs.Laws.Sorted.{Asc, isAscending-in}
 use Rattle.model.specs.Laws.Tables.{In, at-mem, key-at, free-key, of-free, asc-mem-at}
 use Rattle.model.specs.Laws.Occupied.{Exact}
 use Rattle.table.specs.declared.Place.{Place}
 use Rattle.table.specs.declared.Place.the-variants.{Found, Missing}
-use Rattle.table.specs.Rows.{cell, rowsOf, entryOf, areWide, placeOf, table4, isTable4, image4}
+use Rattle.table.specs.Rows.{cell, entryOf, areWide, placeOf, table4, isTable4, image4}
 use Rattle.table.specs.Kinds.{cell-lawful}
 use Rattle.table.specs.Words.{row-at, entry-at, cell-at}
 use Rattle.table.specs.Places.{missing-key}
 use Rattle.table.specs.Answers.{found-below, found-is}
-use Rattle.table.specs.Images.{table-of-image, image-is-table}
-use Rattle.layout.specs.Rows.{listLen, numberOf, neighbourOf, listWords, listCells, cellRow, cellOf, cellsImage, cellsIn}
+use Rattle.table.specs.Images.{table-of-image, image-length, image-is-table}
+use Rattle.layout.specs.Rows.{numberOf, neighbourOf, listWords, listCells, cellRow, cellOf, cellsImage, cellsIn}
 use Rattle.flood.specs.Rows.{rowCell, rowWords, rowNumbers, rowList, placed, rowFor, onward}
 use Rattle.flood.specs.Standing.{Cells}
 use Rattle.flood.specs.Lines.{getD-mem, each-at, whilst-numbers, asc-index}
@@ -40,13 +40,14 @@ use Rattle.flood.specs.Numbers.{touch-near, number-some, number-back}
 abbrev noRow : Cell × List Cell
 noRow = (record { grid = 0; z = 0; y = 0; x = 0 }, [])
 
-module _ (words : List ℕ) (n : ℕ) (t : List (Cell × List Cell)) (k : Cells words n t) where
+module _ (t : List (Cell × List Cell)) (exact : (c : Cell) (l : List Cell) → Mem (c, l) t → Exact touch26 (keys t) c l)
+    (room : (c : Cell) (l : List Cell) (d : Cell) → Mem (c, l) t → Mem d l → hasRoom 1 c ≡ true) where
   -- A list has at most 26 cells.
   pub list-short : (c : Cell) (l : List Cell) → Mem (c, l) t → length l ≤ 26
   list-short c [] m = omega arith
   list-short c (x ∷ l) m =
-      let a = room-above 1 c (k .room c (x ∷ l) x m (head refl)) in
-      let e = k .exact c (x ∷ l) m in
+      let a = room-above 1 c (room c (x ∷ l) x m (head refl)) in
+      let e = exact c (x ∷ l) m in
       let h = once-shorter (e .once) (around 1 c) (λ d j. let r = touch-near c d (e .only j .1) in around-complete 1 c d a (r .0) (r .1)) in
       omega (arith, around-one c)
 
@@ -55,11 +56,24 @@ module _ (words : List ℕ) (n : ℕ) (t : List (Cell × List Cell)) (k : Cells 
       let h = list-short (q .0) (q .1) m in
       omega (arith, length-append (each (numberOf (q .0)) (q .1)) (replicate (26 - length (q .1)) 0), each-length (numberOf (q .0)) (q .1), length-replicate {A = ℕ} (26 - length (q .1)) 0)
 
-  wide : areWide cell 30 (each cellRow t) ≡ true
-  wide =
+  -- Every row has 30 words.
+  pub rows-wide : areWide cell 30 (each cellRow t) ≡ true
+  rows-wide =
       true-of (areWide cell 30 (each cellRow t))
       (all-in (λ (p : Cell × List ℕ). eqb (4 + length (p .1)) 30) (each cellRow t)
-        (λ a m. let r = each-out cellRow t m in subst (λ (p : Cell × List ℕ). T (eqb (4 + length (p .1)) 30)) (sym (r .2)) (eqb-of _ 30 (row-long (r .0) (r .1)))))
+      (λ a m. let r = each-out cellRow t m in subst (λ (p : Cell × List ℕ). T (eqb (4 + length (p .1)) 30)) (sym (r .2)) (eqb-of _ 30 (row-long (r .0) (r .1)))))
+
+  -- The words of such a table hold it.
+  pub cells-of : (len : ℕ) → Asc below (keys t) → 30 * length t ≤ len → Cells (cellsImage len t) (length t) t
+  unfolding cellsImage
+  cells-of len s h =
+      let n : length (each cellRow t) ≡ length t = each-length cellRow t in
+      let e : length (image4 len (each cellRow t)) ≡ len = image-length cell cell-lawful 30 len (each cellRow t) rows-wide (omega arith) in
+      record { image = ap (λ m. image4 m (each cellRow t)) (sym e); number = refl; fits = omega arith; asc = s; exact = exact; room = room }
+
+module _ (words : List ℕ) (n : ℕ) (t : List (Cell × List Cell)) (k : Cells words n t) where
+  wide : areWide cell 30 (each cellRow t) ≡ true
+  wide = rows-wide t (k .exact) (k .room)
 
   written : words ≡ image4 (length words) (each cellRow t)
   unfolding cellsImage
@@ -89,7 +103,7 @@ module _ (words : List ℕ) (n : ℕ) (t : List (Cell × List Cell)) (k : Cells 
   list-read c l m =
       let e = k .exact c l m in
       ap (each (neighbourOf c)) (whilst-numbers (each (numberOf c) l) (26 - length l)
-        (λ a j. let r = each-out (numberOf c) l j in subst (λ v. T (ltb 0 v)) (sym (r .2)) (lt→ltb 0 (numberOf c (r .0)) (number-some c (r .0) (k .room c l (r .0) m (r .1)) (e .only (r .1) .1) .0))))
+      (λ a j. let r = each-out (numberOf c) l j in subst (λ v. T (ltb 0 v)) (sym (r .2)) (lt→ltb 0 (numberOf c (r .0)) (number-some c (r .0) (k .room c l (r .0) m (r .1)) (e .only (r .1) .1) .0))))
       ∙ each-each (neighbourOf c) (numberOf c) l
       ∙ each-same (λ d. neighbourOf c (numberOf c d)) l (λ d j. number-back c d (k .room c l d m j) (e .only j .1))
 
@@ -204,5 +218,5 @@ module _ (words : List ℕ) (n : ℕ) (t : List (Cell × List Cell)) (k : Cells 
     onward-once =
         subst Once (sym onward-list)
         (once-each (rowFor words n) (rowList words i)
-          (λ a b m j e. sym (row-for a (list-in a m) .1) ∙ ap (rowCell words) e ∙ row-for b (list-in b j) .1)
-          (subst Once (sym (row-list i h)) (lists-once (rowCell words i))))
+        (λ a b m j e. sym (row-for a (list-in a m) .1) ∙ ap (rowCell words) e ∙ row-for b (list-in b j) .1)
+        (subst Once (sym (row-list i h)) (lists-once (rowCell words i))))

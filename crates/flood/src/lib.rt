@@ -1,5 +1,7 @@
 // Floods over the table of occupied cells, and what is read of it.
-use component::{Cell, CellCoord, CellId};
+use component::Cell;
+use component::CellCoord;
+use component::CellId;
 use table::Place;
 ghost use mathlib.Core.Path.{_≡_};
 ghost use mathlib.Core.Bool.{true};
@@ -56,7 +58,15 @@ fn next_row(cells: &[u64], n: usize, i: usize, k: usize) -> usize
 }
 
 // The unmarked rows of the list of row i are marked and queued, in list order; the answer is the new end of the queue.
-fn follow(cells: &[u64], n: usize, i: usize, label: u64, marks: &mut [u64], queue: &mut [u64], end: usize) -> usize
+fn follow(
+    cells: &[u64],
+    n: usize,
+    i: usize,
+    label: u64,
+    marks: &mut [u64],
+    queue: &mut [u64],
+    end: usize,
+) -> usize
     requires { ⌜ Followable (now cells) n i label (front end (now marks) (now queue)) ⌝ }
     ensures { λ r. ⌜ front r (now (marks .exit)) (now (queue .exit)) ≡ pushed label (front end (now (marks .entry)) (now (queue .entry))) (onward (now (cells .entry)) n i) ⌝ }
 {
@@ -78,7 +88,14 @@ fn follow(cells: &[u64], n: usize, i: usize, label: u64, marks: &mut [u64], queu
 }
 
 // The flood from the row seed: first in, first out, each row marked when queued, lists followed in list order.
-pub fn flood_rows(cells: &[u64], n: usize, seed: usize, label: u64, marks: &mut [u64], queue: &mut [u64]) -> usize
+pub fn flood_rows(
+    cells: &[u64],
+    n: usize,
+    seed: usize,
+    label: u64,
+    marks: &mut [u64],
+    queue: &mut [u64],
+) -> usize
     requires { ⌜ Floodable (now cells) n seed label (now marks) (now queue) ⌝ }
     ensures { λ r. ⌜ ((t : List (CellOf × List CellOf)) → Cells (now (cells .entry)) n t → Flooded (now (cells .entry)) n seed label (now (marks .entry)) (now (queue .entry)) r (now (marks .exit)) (now (queue .exit)) t) ⌝ }
 {
@@ -126,6 +143,21 @@ fn near_cell(cells: &[u64], row: usize, k: usize) -> Cell
     layout::neighbour_of(c, cells[30 * row + 3 + k])
 }
 
+// The cell of a row and then its list, in list order, are written; the answer is how many.
+pub fn nearby_into(cells: &[u64], n: usize, row: usize, answer: &mut [u64]) -> usize
+    requires { ⌜ NearbyAsked (now cells) n row (now answer) ⌝ }
+    ensures { λ r. ⌜ ((t : List (CellOf × List CellOf)) → Cells (now (cells .entry)) n t → Nearby (now (cells .entry)) row (now (answer .entry)) r (now (answer .exit)) t) ⌝ }
+{
+    let m = list_len(cells, row) + 1;
+    let mut k = 0;
+    while k < m {
+        let c = near_cell(cells, row, k);
+        write_cell(answer, 4 * k, c);
+        k += 1;
+    }
+    m
+}
+
 // The cells of the first count rows are written, in their order.
 pub fn flood_into(cells: &[u64], n: usize, rows: &[u64], count: usize, answer: &mut [u64])
     requires { ⌜ Queued (now cells) n (now rows) count × (4 * count ≤ length (now answer)) ⌝ }
@@ -144,7 +176,11 @@ pub fn flood_into(cells: &[u64], n: usize, rows: &[u64], count: usize, answer: &
 fn depth_word(depth: i32) -> u64
     ensures { λ r. ⌜ (r ≡ biased depth) × (r < 4294967296) ⌝ }
 {
-    let p = CellCoord { x: depth, y: depth, z: depth };
+    let p = CellCoord {
+        x: depth,
+        y: depth,
+        z: depth,
+    };
     let c = component::stored(CellId { grid: 0, coord: p });
     c.x
 }
@@ -178,7 +214,14 @@ fn is_within(d: u64, seed: Cell, c: Cell) -> bool
 }
 
 // How many of the first count rows come before the first above the depth.
-pub fn depth_cut(cells: &[u64], n: usize, queue: &[u64], count: usize, seed: usize, depth: i32) -> usize
+pub fn depth_cut(
+    cells: &[u64],
+    n: usize,
+    queue: &[u64],
+    count: usize,
+    seed: usize,
+    depth: i32,
+) -> usize
     requires { ⌜ Queued (now cells) n (now queue) count × (seed < n) ⌝ }
     ensures { λ r. ⌜ r ≡ length (whilst (within (biased depth) (rowCell (now (cells .entry)) seed)) (cellsOfRows (now (cells .entry)) (now (queue .entry)) count)) ⌝ }
 {

@@ -34,10 +34,10 @@ unfolding encode
 encode-fresh first =
     ap (λ (l : List ℕ). firstWords first ++ l)
     ((λ i. entities-laws .none entitiesLen i
-      ++ (cells-laws .none cellsLen i
-      ++ (net-laws .none netLen i
-      ++ (net-laws .none netLen i
-      ++ (ids-laws .none idsLen i ++ groups-laws .none groupsLen i)))))
+    ++ (cells-laws .none cellsLen i
+    ++ (net-laws .none netLen i
+    ++ (net-laws .none netLen i
+    ++ (ids-laws .none idsLen i ++ groups-laws .none groupsLen i)))))
     ∙ zeros-together entitiesLen cellsLen netLen netLen idsLen groupsLen)
 
 -- Zeros over the first n words.

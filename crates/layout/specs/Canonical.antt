@@ -57,14 +57,19 @@ regroup h a b c d e g = simp append-assoc
 module _ (w : List ℕ) (long : stateLen ≤ length w) where
   groups-fit : groupsFrom ≤ length w
   groups-fit = omega (arith, long, groups-end)
+
   ids-fit : idsFrom ≤ length w
   ids-fit = omega (arith, groups-fit, ids-end)
+
   emptied-fit : emptiedFrom ≤ length w
   emptied-fit = omega (arith, ids-fit, emptied-end)
+
   occupied-fit : occupiedFrom ≤ length w
   occupied-fit = omega (arith, emptied-fit, occupied-end)
+
   cells-fit : cellsFrom ≤ length w
   cells-fit = omega (arith, occupied-fit, cells-end)
+
   entities-fit : entitiesFrom ≤ length w
   entities-fit = omega (arith, cells-fit, entities-end)
 
@@ -91,20 +96,20 @@ module _ (w : List ℕ) (long : stateLen ≤ length w) where
         ap (λ (n : ℕ). take n w) (sym header-end)
         ∙ first-eight w (omega (arith, entities-fit, header-end))
         ∙ (λ i.
-          sym (entities-laws .counted (entityCount w) (entityWords w)) i
-          ∷ sym (cells-laws .counted (cellCount w) (cellWords w)) i
-          ∷ sym (net-laws .counted (occupiedCount w) (occupiedWords w)) i
-          ∷ sym (net-laws .counted (emptiedCount w) (emptiedWords w)) i
-          ∷ sym (ids-laws .counted (idCount w) (idWords w)) i
-          ∷ sym (groups-laws .counted (groupCount w) (groupWords w)) i
-          ∷ getD w 6 0 ∷ o .last i ∷ [])
+        sym (entities-laws .counted (entityCount w) (entityWords w)) i
+        ∷ sym (cells-laws .counted (cellCount w) (cellWords w)) i
+        ∷ sym (net-laws .counted (occupiedCount w) (occupiedWords w)) i
+        ∷ sym (net-laws .counted (emptiedCount w) (emptiedWords w)) i
+        ∷ sym (ids-laws .counted (idCount w) (idWords w)) i
+        ∷ sym (groups-laws .counted (groupCount w) (groupWords w)) i
+        ∷ getD w 6 0 ∷ o .last i ∷ [])
 
     -- Each list is tidy, and each occupied cell has room.
     lists-tidied : Tidied (cellCount w) (cellWords w)
     unfolding decode cellsIn
     lists-tidied p m =
         let t : T (listTidy (p .1)) =
-            all-out listTidy (values (table4 30 (cellCount w) (cellWords w))) (T-true (o .list-rows)) (value-in m) in
+        all-out listTidy (values (table4 30 (cellCount w) (cellWords w))) (T-true (o .list-rows)) (value-in m) in
         let ok : Ok touch26 (decode w) = ok-out touch26 (touching-26 .flip) (decode w) (T-true (o .yard)) in
         let r : hasRoom 1 (p .0) ≡ true = occupied-room (decode w) ok (p .0) (key-in (each-in cellOf m)) in
         (true-of (listTidy (p .1)) t, λ i. r i || areZero (p .1))
@@ -114,26 +119,26 @@ module _ (w : List ℕ) (long : stateLen ≤ length w) where
     unfolding encode decode
     words-image =
         let entities : entitiesImage entitiesLen (entitiesIn (entityCount w) (entityWords w)) ≡ entityWords w =
-            tidy-image entities-laws mostEntities entitiesLen (entityCount w) (entityWords w)
-            (part-length w entitiesFrom entitiesLen cellsFrom entities-end cells-fit) (entities-room (entityCount w)) (o .entity-rows) tt in
+        tidy-image entities-laws mostEntities entitiesLen (entityCount w) (entityWords w)
+        (part-length w entitiesFrom entitiesLen cellsFrom entities-end cells-fit) (entities-room (entityCount w)) (o .entity-rows) tt in
         let cells : cellsImage cellsLen (cellsIn (cellCount w) (cellWords w)) ≡ cellWords w =
-            tidy-image cells-laws mostCells cellsLen (cellCount w) (cellWords w)
-            (part-length w cellsFrom cellsLen occupiedFrom cells-end occupied-fit) (cells-room (cellCount w)) (o .cell-rows) lists-tidied in
+        tidy-image cells-laws mostCells cellsLen (cellCount w) (cellWords w)
+        (part-length w cellsFrom cellsLen occupiedFrom cells-end occupied-fit) (cells-room (cellCount w)) (o .cell-rows) lists-tidied in
         let occupied : netImage netLen (netIn (occupiedCount w) (occupiedWords w)) ≡ occupiedWords w =
-            tidy-image net-laws mostCells netLen (occupiedCount w) (occupiedWords w)
-            (part-length w occupiedFrom netLen emptiedFrom occupied-end emptied-fit) (net-room (occupiedCount w)) (o .occupied-rows) tt in
+        tidy-image net-laws mostCells netLen (occupiedCount w) (occupiedWords w)
+        (part-length w occupiedFrom netLen emptiedFrom occupied-end emptied-fit) (net-room (occupiedCount w)) (o .occupied-rows) tt in
         let emptied : netImage netLen (netIn (emptiedCount w) (emptiedWords w)) ≡ emptiedWords w =
-            tidy-image net-laws mostCells netLen (emptiedCount w) (emptiedWords w)
-            (part-length w emptiedFrom netLen idsFrom emptied-end ids-fit) (net-room (emptiedCount w)) (o .emptied-rows) tt in
+        tidy-image net-laws mostCells netLen (emptiedCount w) (emptiedWords w)
+        (part-length w emptiedFrom netLen idsFrom emptied-end ids-fit) (net-room (emptiedCount w)) (o .emptied-rows) tt in
         let ids : idsImage idsLen (idsIn (idCount w) (idWords w)) ≡ idWords w =
-            tidy-image ids-laws mostCells idsLen (idCount w) (idWords w)
-            (part-length w idsFrom idsLen groupsFrom ids-end groups-fit) (ids-room (idCount w)) (o .id-rows) tt in
+        tidy-image ids-laws mostCells idsLen (idCount w) (idWords w)
+        (part-length w idsFrom idsLen groupsFrom ids-end groups-fit) (ids-room (idCount w)) (o .id-rows) tt in
         let groups : groupsImage groupsLen (groupsIn (groupCount w) (groupWords w)) ≡ groupWords w =
-            tidy-image groups-laws mostCells groupsLen (groupCount w) (groupWords w)
-            (part-length w groupsFrom groupsLen stateLen groups-end long) (groups-room (groupCount w)) (o .group-rows) tt in
+        tidy-image groups-laws mostCells groupsLen (groupCount w) (groupWords w)
+        (part-length w groupsFrom groupsLen stateLen groups-end long) (groups-room (groupCount w)) (o .group-rows) tt in
         words-parts
         ∙ (λ i. header-is i
-          ++ (sym entities i ++ (sym cells i ++ (sym occupied i ++ (sym emptied i ++ (sym ids i ++ sym groups i))))))
+        ++ (sym entities i ++ (sym cells i ++ (sym occupied i ++ (sym emptied i ++ (sym ids i ++ sym groups i))))))
 
 -- Consistent words that are long enough stand for a consistent state and begin with its image.
 pub consistent-image : (w : List ℕ) → consistentWords w ≡ true → longEnough w ≡ true → T (consistent touch26 (decode w)) × (take stateLen w ≡ encode (decode w))
@@ -157,7 +162,8 @@ image-consistent s rest t =
       group-rows = (λ i. tidy 9 mostCells (st .group-count i) (st .group-words i)) ∙ image-tidy groups-laws mostCells groupsLen (s .records) (λ a m. tt) (f .groups);
       occupied-rows = (λ i. tidy 4 mostCells (st .occupied-count i) (st .occupied-words i)) ∙ image-tidy net-laws mostCells netLen (s .occupancy .newlyOccupied) (λ a m. tt) (f .newly-occupied);
       emptied-rows = (λ i. tidy 4 mostCells (st .emptied-count i) (st .emptied-words i)) ∙ image-tidy net-laws mostCells netLen (s .occupancy .newlyEmptied) (λ a m. tt) (f .newly-emptied);
-      yard = ap (consistent touch26) (decode-longer s t rest) ∙ true-of (consistent touch26 s) t })
+      yard = ap (consistent touch26) (decode-longer s t rest) ∙ true-of (consistent touch26 s) t;
+    })
 
 -- Words that begin with an image are that image and what follows it.
 begins : (w : List ℕ) (s : State) → take stateLen w ≡ encode s → w ≡ encode s ++ drop stateLen w
@@ -169,6 +175,7 @@ image-unique w s t e = sym (ap decode (begins w s e) ∙ decode-longer s t (drop
 
 -- Words that are long enough are consistent exactly if they begin with the image of a consistent state.
 pub canonical : (w : List ℕ) → longEnough w ≡ true → (consistentWords w ≡ true) ↔ ((s : State) × T (consistent touch26 s) × (take stateLen w ≡ encode s))
-canonical w l =
-    (λ e. let r = consistent-image w e l in (decode w, r .0, r .1),
-     λ r. ap consistentWords (begins w (r .0) (r .2)) ∙ image-consistent (r .0) (drop stateLen w) (r .1))
+canonical w l = (
+  λ e. let r = consistent-image w e l in (decode w, r .0, r .1),
+  λ r. ap consistentWords (begins w (r .0) (r .2)) ∙ image-consistent (r .0) (drop stateLen w) (r .1),
+)

@@ -19,21 +19,22 @@ pub decode-stands : (s : State) (w : List ℕ) → Fits s → Stands s w → dec
 unfolding decode
 decode-stands s w fits st =
     let entities : entitiesIn (entityCount w) (entityWords w) ≡ s .occupancy .entities =
-        (λ i. entitiesIn (st .entity-count i) (st .entity-words i)) ∙ entities-laws .read entitiesLen (s .occupancy .entities) (λ a m. tt) in
+    (λ i. entitiesIn (st .entity-count i) (st .entity-words i)) ∙ entities-laws .read entitiesLen (s .occupancy .entities) (λ a m. tt) in
     let lists : cellsIn (cellCount w) (cellWords w) ≡ s .occupancy .lists =
-        (λ i. cellsIn (st .cell-count i) (st .cell-words i)) ∙ cells-laws .read cellsLen (s .occupancy .lists) (fits .lists) in
+    (λ i. cellsIn (st .cell-count i) (st .cell-words i)) ∙ cells-laws .read cellsLen (s .occupancy .lists) (fits .lists) in
     let occupied : netIn (occupiedCount w) (occupiedWords w) ≡ s .occupancy .newlyOccupied =
-        (λ i. netIn (st .occupied-count i) (st .occupied-words i)) ∙ net-laws .read netLen (s .occupancy .newlyOccupied) (λ a m. tt) in
+    (λ i. netIn (st .occupied-count i) (st .occupied-words i)) ∙ net-laws .read netLen (s .occupancy .newlyOccupied) (λ a m. tt) in
     let emptied : netIn (emptiedCount w) (emptiedWords w) ≡ s .occupancy .newlyEmptied =
-        (λ i. netIn (st .emptied-count i) (st .emptied-words i)) ∙ net-laws .read netLen (s .occupancy .newlyEmptied) (λ a m. tt) in
+    (λ i. netIn (st .emptied-count i) (st .emptied-words i)) ∙ net-laws .read netLen (s .occupancy .newlyEmptied) (λ a m. tt) in
     let ids : idsIn (idCount w) (idWords w) ≡ s .groups .ids =
-        (λ i. idsIn (st .id-count i) (st .id-words i)) ∙ ids-laws .read idsLen (s .groups .ids) (λ a m. tt) in
+    (λ i. idsIn (st .id-count i) (st .id-words i)) ∙ ids-laws .read idsLen (s .groups .ids) (λ a m. tt) in
     let groups : groupsIn (groupCount w) (groupWords w) ≡ s .records =
-        (λ i. groupsIn (st .group-count i) (st .group-words i)) ∙ groups-laws .read groupsLen (s .records) (λ a m. tt) in
+    (λ i. groupsIn (st .group-count i) (st .group-words i)) ∙ groups-laws .read groupsLen (s .records) (λ a m. tt) in
     λ i. record {
       occupancy = record { entities = entities i; lists = lists i; newlyOccupied = occupied i; newlyEmptied = emptied i };
       groups = record { ids = ids i; next = st .next-id i };
-      records = groups i }
+      records = groups i;
+    }
 
 module _ (s : State) (t : T (consistent touch26 s)) where
   -- The words that begin with the image of a consistent state stand for that state.

@@ -47,12 +47,16 @@ module _ (s : State) (ok : Ok touch26 s) where
       let exact = ok .sound .exact (p .0) (p .1) m in
       let room : hasRoom 1 (p .0) ≡ true = occupied-room (p .0) (key-in m) in
       let touching : (d : Cell) → Mem d (p .1) → touches (p .0) d ≡ true =
-          λ d k. sym (touch26-touches (p .0) d) ∙ true-of (touch26 (p .0) d) (exact .only k .1) in
+      λ d k. sym (touch26-touches (p .0) d) ∙ true-of (touch26 (p .0) d) (exact .only k .1) in
       record {
         room = room;
         touching = touching;
-        few = omega (arith, around-one (p .0),
-          once-shorter (exact .once) (around 1 (p .0)) (λ d k. touching-in-list (p .0) d (room-above 1 (p .0) room) (touching d k))) }
+        few = omega (
+          arith,
+          around-one (p .0),
+          once-shorter (exact .once) (around 1 (p .0)) (λ d k. touching-in-list (p .0) d (room-above 1 (p .0) room) (touching d k)),
+        );
+      }
 
   ok-fits : Fits s
   ok-fits =
@@ -65,7 +69,8 @@ module _ (s : State) (ok : Ok touch26 s) where
         newly-emptied = ok .few-emptied;
         ids = ids;
         groups = omega (arith, records-few (s .groups .ids), ap length (ok .records-are));
-        lists = list-listed }
+        lists = list-listed;
+      }
 
 -- A consistent state fits.
 pub consistent-fits : (s : State) → T (consistent touch26 s) → Fits s

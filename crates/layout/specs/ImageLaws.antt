@@ -17,11 +17,11 @@ use Rattle.model.specs.Laws.Values.{value-out}
 use Rattle.table.specs.Rows.{Kind, number, cell, areZero, rowOf, tableOf, imageOf, areWide, table4}
 use Rattle.table.specs.Kinds.{Lawful, number-lawful, cell-lawful}
 use Rattle.table.specs.Words.{table-length, words-all}
-use Rattle.table.specs.Images.{words-length, image-length, table-of-image}
+use Rattle.table.specs.Images.{are-zeros, words-length, image-length, table-of-image}
 use Rattle.layout.specs.Rows.{entityRow, entityOf, cellRow, cellOf, netRow, idRow, idOf, groupRow, groupOf, entitiesImage, cellsImage, netImage, idsImage, groupsImage, entitiesIn, cellsIn, netIn, idsIn, groupsIn}
 use Rattle.layout.specs.Points.{listTidy}
 use Rattle.layout.specs.Facts.{TableLaws, Any, Anyhow, Listed, Tidied}
-use Rattle.layout.specs.Zeros.{are-zeros, padded}
+use Rattle.layout.specs.Zeros.{padded}
 use Rattle.layout.specs.RowLaws.{entity-written, id-written, group-written, net-written, list-length, cell-read, cell-written, list-tidy, rows-wide, cells-wide}
 
 -- The rows that are read have w words.
@@ -56,8 +56,8 @@ module _ {A K : Type 0} (kind : Kind K) (laws : Lawful kind) (w : ℕ) (wide : k
   unfolding imageOf
   written-again n s h z f =
       let back : each row (each of (tableOf kind w n s)) ≡ tableOf kind w n s =
-          each-each row of (tableOf kind w n s)
-          ∙ each-same (λ p. row (of p)) (tableOf kind w n s) (λ p m. fair n s f p m (table-wide kind w n s wide h p m)) in
+      each-each row of (tableOf kind w n s)
+      ∙ each-same (λ p. row (of p)) (tableOf kind w n s) (λ p m. fair n s f p m (table-wide kind w n s wide h p m)) in
       ap (imageOf kind (length s)) back
       ∙ ap (λ (r : List ℕ). r ++ replicate (length s - length r) 0) (words-all kind w laws wide n s h)
       ∙ ap (λ (m : ℕ). take (w * n) s ++ replicate (length s - m) 0) (length-take-le (w * n) s h)
@@ -68,7 +68,7 @@ module _ {A K : Type 0} (kind : Kind K) (laws : Lawful kind) (w : ℕ) (wide : k
   image-zeros len t g =
       let r : List ℕ = gather (rowOf kind) (each row t) in
       let e : length r ≡ w * length t =
-          words-length kind laws w (each row t) (all-wide t g) ∙ ap (λ (n : ℕ). w * n) (each-length row t) in
+      words-length kind laws w (each row t) (all-wide t g) ∙ ap (λ (n : ℕ). w * n) (each-length row t) in
       ap areZero (drop-at r (replicate (len - length r) 0) (w * length t) e) ∙ are-zeros (len - length r)
 
   image-long : (len : ℕ) (t : List A) → ((a : A) → Mem a t → Good a) → w * length t ≤ len → length (imageOf kind len (each row t)) ≡ len
@@ -88,7 +88,8 @@ module _ {A K : Type 0} (kind : Kind K) (laws : Lawful kind) (w : ℕ) (wide : k
         long = image-long;
         zeros = image-zeros;
         counted = λ n s. each-length of (tableOf kind w n s) ∙ table-length kind w n s;
-        none = image-none }
+        none = image-none;
+      }
 
 -- The table of entities.
 pub entities-laws : TableLaws 5 entitiesImage entitiesIn Any Anyhow
@@ -133,8 +134,8 @@ unfolding cellsImage
 lists-tidy len t g =
     let rows : List (Cell × List ℕ) = each cellRow t in
     let back : table4 30 (length t) (imageOf cell len rows) ≡ rows =
-        ap (λ (n : ℕ). table4 30 n (imageOf cell len rows)) (sym (each-length cellRow t))
-        ∙ table-of-image cell cell-lawful 30 len rows (cells-wide t (λ p m. g p m .few)) in
+    ap (λ (n : ℕ). table4 30 n (imageOf cell len rows)) (sym (each-length cellRow t))
+    ∙ table-of-image cell cell-lawful 30 len rows (cells-wide t (λ p m. g p m .few)) in
     ap (λ (u : List (Cell × List ℕ)). all listTidy (values u)) back
     ∙ true-of (all listTidy (values rows)) (all-in listTidy (values rows) tidied)
   where

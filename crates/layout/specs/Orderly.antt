@@ -27,48 +27,66 @@ module _ (w : List ℕ) where
   -- Points 2 to 8, each with what follows it.
   abbrev from7 : Bool
   from7 = point7 w && point8 w
+
   abbrev from6 : Bool
   from6 = point6 w && from7
+
   abbrev from5 : Bool
   from5 = point5 w && from6
+
   abbrev from4 : Bool
   from4 = point4 w && from5
+
   abbrev from3 : Bool
   from3 = point3 w && from4
+
   abbrev from2 : Bool
   from2 = point2 w && from3
 
   -- The points of the state, each with what follows it.
   abbrev of7 : Bool
   of7 = coordinatesInRange s && netsInOrder s
+
   abbrev of6 : Bool
   of6 = idsBelowNext s && of7
+
   abbrev of5 : Bool
   of5 = recordsExact s && of6
+
   abbrev of4 : Bool
   of4 = idsShared touch26 s && of5
+
   abbrev of3 : Bool
   of3 = listsExact touch26 s && of4
+
   abbrev of2 : Bool
   of2 = cellsExact s && of3
 
   -- The parts of the points of words.
   abbrev last-ok : Bool
   last-ok = eqb (getD w 7 0) 0
+
   abbrev ents-ok : Bool
   ents-ok = tidy 5 mostEntities (entityCount w) (entityWords w)
+
   abbrev few-ok : Bool
   few-ok = leb (cellCount w) mostCells
+
   abbrev cells-ok : Bool
   cells-ok = tidy 30 mostCells (cellCount w) (cellWords w)
+
   abbrev ids-ok : Bool
   ids-ok = tidy 5 mostCells (idCount w) (idWords w)
+
   abbrev lists-ok : Bool
   lists-ok = all listTidy (values (table4 30 (cellCount w) (cellWords w)))
+
   abbrev groups-ok : Bool
   groups-ok = tidy 9 mostCells (groupCount w) (groupWords w)
+
   abbrev occs-ok : Bool
   occs-ok = tidy 4 mostCells (occupiedCount w) (occupiedWords w)
+
   abbrev emps-ok : Bool
   emps-ok = tidy 4 mostCells (emptiedCount w) (emptiedWords w)
 
@@ -103,13 +121,14 @@ module _ (w : List ℕ) where
         occupied-rows = h1 .0;
         emptied-rows = h2 .0;
         yard =
-          and-in (withinNumber s) of2 (a3 .1)
-          (and-in (cellsExact s) of3 (b2 .1)
-          (and-in (listsExact touch26 s) of4 (c1 .1)
-          (and-in (idsShared touch26 s) of5 (p4 .0)
-          (and-in (recordsExact s) of6 (d1 .1)
-          (and-in (idsBelowNext s) of7 (p6 .0)
-          (and-in (coordinatesInRange s) (netsInOrder s) (p7 .0) (h2 .1))))))) }
+            and-in (withinNumber s) of2 (a3 .1)
+            (and-in (cellsExact s) of3 (b2 .1)
+            (and-in (listsExact touch26 s) of4 (c1 .1)
+            (and-in (idsShared touch26 s) of5 (p4 .0)
+            (and-in (recordsExact s) of6 (d1 .1)
+            (and-in (idsBelowNext s) of7 (p6 .0)
+            (and-in (coordinatesInRange s) (netsInOrder s) (p7 .0) (h2 .1)))))));
+      }
 
   -- Orderly words are consistent.
   pub orderly-in : Orderly w → consistentWords w ≡ true

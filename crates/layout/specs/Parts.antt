@@ -27,10 +27,11 @@ module _ {w : List ℕ} {f : ℕ} (t : ℕ) (a r : List ℕ) (here : From w f (a
       record {
         fits = omega (arith, here .fits, ends, length-drop f w, ap length (here .rest), length-append a r);
         rest =
-          ap (λ (m : ℕ). drop m w) (sym ends)
-          ∙ sym (drop-drop (length a) f w)
-          ∙ ap (drop (length a)) (here .rest)
-          ∙ drop-append-seam a r }
+            ap (λ (m : ℕ). drop m w) (sym ends)
+            ∙ sym (drop-drop (length a) f w)
+            ∙ ap (drop (length a)) (here .rest)
+            ∙ drop-append-seam a r;
+      }
 
 -- The words up to t are those up to f and those from f to t.
 pub take-more : (w : List ℕ) (f t : ℕ) → f ≤ t → take t w ≡ take f w ++ slice f t w

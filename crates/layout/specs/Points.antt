@@ -1,12 +1,12 @@
 -- Consistency of words: the eight points, each with the layout faults that fall under it.
-use Prim.Native.Nat.{ℕ, _*_, _+_}
+use Prim.Native.Nat.{ℕ, _*_}
 use mathlib.Core.Bool.{Bool, _&&_}
 use mathlib.Core.List.{List}
 use lib.Dec.{eqb, leb, ltb}
 use lib.ListN.{length, getD, drop}
 use Rattle.model.specs.Lists.{all, whilst, values}
-use Rattle.model.specs.Cells.{Cell, touch26}
-use Rattle.model.specs.Update.{State, mostEntities, mostCells}
+use Rattle.model.specs.Cells.{touch26}
+use Rattle.model.specs.Update.{mostEntities, mostCells}
 use Rattle.model.specs.Consistent.{withinNumber, cellsExact, listsExact, idsShared, recordsExact, idsBelowNext, coordinatesInRange, netsInOrder}
 use Rattle.table.specs.Rows.{areZero, table4}
 use Rattle.layout.specs.State.{decode, stateLen, entityWords, cellWords, occupiedWords, emptiedWords, idWords, groupWords, entityCount, cellCount, occupiedCount, emptiedCount, idCount, groupCount}

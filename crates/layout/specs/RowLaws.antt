@@ -19,7 +19,8 @@ use Rattle.table.specs.Rows.{Kind, number, cell, areZero, areWide}
 use Rattle.layout.specs.Rows.{entityRow, entityOf, numberOf, neighbourOf, listWords, listCells, cellRow, cellOf, netRow, idRow, idOf, groupRow, groupOf}
 use Rattle.layout.specs.Points.{listTidy}
 use Rattle.layout.specs.NumberLaws.{number-range, neighbour-of-number, number-of-neighbour}
-use Rattle.layout.specs.Zeros.{are-zeros, whilst-zeros, whilst-none, whilst-padded}
+use Rattle.table.specs.Images.{are-zeros}
+use Rattle.layout.specs.Zeros.{whilst-zeros, whilst-none, whilst-padded}
 
 -- An entity's row is read as it was written.
 pub entity-read : (p : ℕ × Cell) → entityOf (entityRow p) ≡ p
@@ -92,8 +93,8 @@ list-written c ws e t o =
     let k : T (all (λ n. leb n 26) ws) = and-fst (all (λ n. leb n 26) ws) (areZero (drop (length v) ws)) (T-true t) in
     let z : T (areZero (drop (length v) ws)) = and-snd (all (λ n. leb n 26) ws) (areZero (drop (length v) ws)) (T-true t) in
     let same : each (numberOf c) (each (neighbourOf c) v) ≡ v =
-        each-each (numberOf c) (neighbourOf c) v
-        ∙ ⊎-elim (λ r. each-same (λ n. numberOf c (neighbourOf c n)) v (λ n m. back r k n m)) (λ r. nothing (whilst-none ws r)) (or-cases (hasRoom 1 c) (areZero ws) (T-true o)) in
+    each-each (numberOf c) (neighbourOf c) v
+    ∙ ⊎-elim (λ r. each-same (λ n. numberOf c (neighbourOf c n)) v (λ n m. back r k n m)) (λ r. nothing (whilst-none ws r)) (or-cases (hasRoom 1 c) (areZero ws) (T-true o)) in
     let n : 26 - length (each (neighbourOf c) v) ≡ length ws - length v = omega (arith, each-length (neighbourOf c) v) in
     (λ i. same i ++ replicate (n i) 0) ∙ whilst-padded (ltb 0) ws z
   where
@@ -121,9 +122,9 @@ list-tidy c l f =
     let ws : List ℕ = v ++ replicate m 0 in
     let w : whilst (ltb 0) ws ≡ v = whilst-zeros v m (λ n k. numbers-some c l f n k) in
     let b : all (λ n. leb n 26) ws ≡ true =
-        true-of (all (λ n. leb n 26) ws) (all-in (λ n. leb n 26) ws (λ n k. ⊎-elim (numbers-few n) (zeros-few m n) (append-cases v k))) in
+    true-of (all (λ n. leb n 26) ws) (all-in (λ n. leb n 26) ws (λ n k. ⊎-elim (numbers-few n) (zeros-few m n) (append-cases v k))) in
     let z : areZero (drop (length (whilst (ltb 0) ws)) ws) ≡ true =
-        ap (λ (u : List ℕ). areZero (drop (length u) ws)) w ∙ ap areZero (drop-append-seam v (replicate m 0)) ∙ are-zeros m in
+    ap (λ (u : List ℕ). areZero (drop (length u) ws)) w ∙ ap areZero (drop-append-seam v (replicate m 0)) ∙ are-zeros m in
     λ i. b i && z i
   where
     numbers-few : (n : ℕ) → Mem n (each (numberOf c) l) → T (leb n 26)

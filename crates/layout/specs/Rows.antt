@@ -1,6 +1,6 @@
 -- How the rows of the model's tables stand in words, and how they are read back.
 use Prim.Native.Nat.{ℕ, suc, _+_, _-_, _*_}
-use mathlib.Core.Bool.{Bool, cond}
+use mathlib.Core.Bool.{cond}
 use mathlib.Core.List.{List, [], _∷_, _++_}
 use lib.ListN.{length, getD, replicate}
 use lib.Dec.{ltb}
@@ -68,9 +68,10 @@ idOf p = (p .0, getD (p .1) 0 0)
 
 -- A group's row: the id, then grid, cell count, low x, y, z, high x, y, z; 9 words.
 abbrev pub groupRow : ℕ × Group → ℕ × List ℕ
-groupRow p =
-    (p .0,
-      p .1 .grid ∷ p .1 .count ∷ p .1 .low .x ∷ p .1 .low .y ∷ p .1 .low .z ∷ p .1 .high .x ∷ p .1 .high .y ∷ p .1 .high .z ∷ [])
+groupRow p = (
+  p .0,
+  p .1 .grid ∷ p .1 .count ∷ p .1 .low .x ∷ p .1 .low .y ∷ p .1 .low .z ∷ p .1 .high .x ∷ p .1 .high .y ∷ p .1 .high .z ∷ [],
+)
 
 -- The corner whose words stand at a place.
 abbrev pub cornerIn : List ℕ → ℕ → Corner

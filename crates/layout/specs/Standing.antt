@@ -19,14 +19,19 @@ regroup h a b c d e g r = simp append-assoc
 module _ (s : State) (fits : Fits s) where
   abbrev ents : List ℕ
   ents = entitiesImage entitiesLen (s .occupancy .entities)
+
   abbrev cels : List ℕ
   cels = cellsImage cellsLen (s .occupancy .lists)
+
   abbrev occs : List ℕ
   occs = netImage netLen (s .occupancy .newlyOccupied)
+
   abbrev emps : List ℕ
   emps = netImage netLen (s .occupancy .newlyEmptied)
+
   abbrev idss : List ℕ
   idss = idsImage idsLen (s .groups .ids)
+
   abbrev grps : List ℕ
   grps = groupsImage groupsLen (s .records)
 
@@ -112,7 +117,8 @@ module _ (s : State) (fits : Fits s) where
           occupied-words = part-is emptiedFrom occs (emps ++ (idss ++ (grps ++ r))) from-occupied at-emptied;
           emptied-words = part-is idsFrom emps (idss ++ (grps ++ r)) from-emptied at-ids;
           id-words = part-is groupsFrom idss (grps ++ r) from-ids at-groups;
-          group-words = part-is stateLen grps r from-groups at-end }
+          group-words = part-is stateLen grps r from-groups at-end;
+        }
 
     -- Words that begin with the image of a state.
     pub image-stands : Stands s (encode s ++ r)

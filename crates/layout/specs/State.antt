@@ -115,6 +115,8 @@ decode w =
         entities = entitiesIn (entityCount w) (entityWords w);
         lists = cellsIn (cellCount w) (cellWords w);
         newlyOccupied = netIn (occupiedCount w) (occupiedWords w);
-        newlyEmptied = netIn (emptiedCount w) (emptiedWords w) };
+        newlyEmptied = netIn (emptiedCount w) (emptiedWords w);
+      };
       groups = record { ids = idsIn (idCount w) (idWords w); next = nextId w };
-      records = groupsIn (groupCount w) (groupWords w) }
+      records = groupsIn (groupCount w) (groupWords w);
+    }

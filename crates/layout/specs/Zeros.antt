@@ -1,25 +1,16 @@
 -- Lists of zeros.
 use Prim.Native.Nat.{ℕ, zero, suc, _-_}
 use mathlib.Core.Path.{_≡_, refl, sym, ap, _∙_}
-use mathlib.Core.Bool.{Bool, true}
+use mathlib.Core.Bool.{Bool}
 use mathlib.Core.List.{List, [], _∷_, _++_, List·Memᴰ as Mem, List·Memᴰ·head as head, List·Memᴰ·tail as tail, List·Memᴰ·not-nil as mem-nil}
-use lib.Dec.{T, eqb, ltb, eqb→eq}
+use lib.Dec.{T, ltb}
 use lib.ListN.{length, take, drop, replicate, take-append-drop, length-drop}
 use lib.Seq.{take-append-seam}
 use Rattle.model.specs.Lists.{whilst}
-use Rattle.model.specs.Laws.Tests.{and-fst, and-snd, cond-yes}
+use Rattle.model.specs.Laws.Tests.{cond-yes}
 use Rattle.model.specs.Laws.Prefixes.{whilst-split}
 use Rattle.table.specs.Rows.{areZero}
-
--- Words that are all zero are so many zeros.
-pub zeros-are : (l : List ℕ) → T (areZero l) → l ≡ replicate (length l) 0
-zeros-are [] t = refl
-zeros-are (x ∷ l) t = λ i. sym (eqb→eq 0 x (and-fst (eqb 0 x) (areZero l) t)) i ∷ zeros-are l (and-snd (eqb 0 x) (areZero l) t) i
-
--- So many zeros are all zero.
-pub are-zeros : (m : ℕ) → areZero (replicate m 0) ≡ true
-are-zeros zero = refl
-are-zeros (suc m) = are-zeros m
+use Rattle.table.specs.Images.{zeros-are}
 
 -- Words up to the first zero, where zeros follow words that are none.
 pub whilst-zeros : (l : List ℕ) (m : ℕ) → ((n : ℕ) → Mem n l → T (ltb 0 n)) → whilst (ltb 0) (l ++ replicate m 0) ≡ l

@@ -1,5 +1,7 @@
 // The words of the state: the length that number 1 speaks of, and the numbers that stand for neighbours in lists.
-use component::{adjacent, Cell, Neighbour};
+use component::Cell;
+use component::Neighbour;
+use component::adjacent;
 ghost use mathlib.Core.Path.{_≡_};
 ghost use Prim.Native.Nat.{_-_};
 ghost use Rattle.layout.specs.State.{stateLen};

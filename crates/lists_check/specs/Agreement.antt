@@ -1,5 +1,5 @@
 -- Ids that agree with the marks of connected parts are shared exactly by joined cells.
-use Prim.Native.Nat.{ℕ, zero, suc, _+_, _*_, _≤_, _<_}
+use Prim.Native.Nat.{ℕ, suc, _+_, _*_, _≤_, _<_}
 use native.Mathlib.Numerals.{add-one}
 use native.Mathlib.Omega.{arith}
 use mathlib.Core.Path.{_≡_, refl, sym, ap, _∙_, subst, subst₂}
@@ -8,12 +8,11 @@ use mathlib.Core.Bool.{Bool, true, false, cond, _&&_, _||_, not}
 use mathlib.Core.List.{List, List·Memᴰ as Mem}
 use lib.Dec.{T, T-not, eqb, eqb→eq}
 use lib.ListN.{length, getD, replicate, length-replicate, getD-replicate}
-use borrow.Author.Tests.{eq-eqb}
-use Rattle.model.specs.Lists.{all, each, keys, count}
+use Rattle.model.specs.Lists.{all, keys, count}
 use Rattle.model.specs.Cells.{Cell, touch26}
 use Rattle.model.specs.Groups.{Ids}
 use Rattle.model.specs.Paths.{Joined}
-use Rattle.model.specs.Laws.Tests.{T-true, true-of, same-test, eqb-of, or-cases, or-left, or-right, decided}
+use Rattle.model.specs.Laws.Tests.{same-test, eqb-of, or-cases, or-right}
 use Rattle.model.specs.Laws.Members.{all-in, all-out, count-in, count-out}
 use Rattle.model.specs.Laws.Shared.{Shared, sharedIn, shared-in, shared-out, agree-in, agree-out}
 use Rattle.model.specs.Laws.Touching.{touching-26}
@@ -21,7 +20,7 @@ use Rattle.flood.specs.Lines.{getD-mem, mem-getD}
 use Rattle.flood.specs.Rows.{rowCell}
 use Rattle.flood.specs.Standing.{Cells, Stands}
 use Rattle.flood.specs.Reads as flooded
-use Rattle.table.specs.Rows.{cell, cellAt, rowsOf, table4}
+use Rattle.table.specs.Rows.{cell, cellAt, table4}
 use Rattle.table.specs.Words.{word-at, rest-at}
 use Rattle.layout.specs.Rows.{idOf, idsIn}
 use Rattle.scans.specs.Scans.{Lines, lines-of, lines-at, lines-as, lines-each}
@@ -108,11 +107,12 @@ module _ (words : List ℕ) (m : ℕ) (t : List (Cell × List Cell)) (k : Cells 
     first-agrees f j h g e =
         let one : T (eqb (getD marks f 0) (f + 1)) = eqb-of (getD marks f 0) (f + 1) (e ∙ sym (add-one f)) in
         let a : T (all (agreeAt ids marks f) (count 0 m)) =
-            ⊎-elim (λ n. absurd (T-not (eqb (getD marks f 0) (f + 1)) n one)) (λ x. x)
-            (or-cases (not (eqb (getD marks f 0) (f + 1))) (all (agreeAt ids marks f) (count 0 m)) (all-out (firstAgrees ids m marks) (count 0 m) u (count-in 0 m (omega arith) (omega arith)))) in
-        let p = agree-out (eqb (idAt ids f) (idAt ids j)) (eqb (getD marks f 0) (getD marks j 0)) (all-out (agreeAt ids marks f) (count 0 m) a (count-in 0 m (omega arith) (omega arith))) in
-        (λ x. eqb→eq (getD marks f 0) (getD marks j 0) (p .0 (eqb-of (idAt ids f) (idAt ids j) x)),
-         λ x. eqb→eq (idAt ids f) (idAt ids j) (p .1 (eqb-of (getD marks f 0) (getD marks j 0) x)))
+        ⊎-elim (λ n. absurd (T-not (eqb (getD marks f 0) (f + 1)) n one)) (λ x. x)
+        (or-cases (not (eqb (getD marks f 0) (f + 1))) (all (agreeAt ids marks f) (count 0 m)) (all-out (firstAgrees ids m marks) (count 0 m) u (count-in 0 m (omega arith) (omega arith)))) in
+        let p = agree-out (eqb (idAt ids f) (idAt ids j)) (eqb (getD marks f 0) (getD marks j 0)) (all-out (agreeAt ids marks f) (count 0 m) a (count-in 0 m (omega arith) (omega arith))) in (
+          λ x. eqb→eq (getD marks f 0) (getD marks j 0) (p .0 (eqb-of (idAt ids f) (idAt ids j) x)),
+          λ x. eqb→eq (idAt ids f) (idAt ids j) (p .1 (eqb-of (getD marks f 0) (getD marks j 0) x)),
+        )
 
     -- Two rows have one id exactly if they have one mark.
     ids-marks : (i j : ℕ) → i < m → j < m → ((idAt ids i ≡ idAt ids j) ↔ (getD marks i 0 ≡ getD marks j 0))
@@ -131,11 +131,12 @@ module _ (words : List ℕ) (m : ℕ) (t : List (Cell × List Cell)) (k : Cells 
         let j = mem-lines (id-rows m ids) y in
         let a : p .1 ≡ idAt ids (i .0) = ap (λ (z : Cell × ℕ). z .1) (i .2) in
         let b : q .1 ≡ idAt ids (j .0) = ap (λ (z : Cell × ℕ). z .1) (j .2) in
-        let s = ids-marks (i .0) (j .0) (i .1) (j .1) in
-        (λ e. subst₂ (λ (z v : Cell × ℕ). Joined touch26 (keys rows) (z .0) (v .0)) (sym (i .2)) (sym (j .2))
-          (path-out (i .0) (j .0) (i .1) (j .1) (same-linked words m t k m marks (omega arith) d (i .0) (j .0) (i .1) (j .1) (s .0 (sym a ∙ e ∙ b)))),
-         λ w. a ∙ s .1 (linked-same words m t k m marks (omega arith) d (i .0) (j .0) (i .1) (j .1)
-          (path-in (i .0) (j .0) (i .1) (j .1) (subst₂ (λ (z v : Cell × ℕ). Joined touch26 (keys rows) (z .0) (v .0)) (i .2) (j .2) w))) ∙ sym b)
+        let s = ids-marks (i .0) (j .0) (i .1) (j .1) in (
+          λ e. subst₂ (λ (z v : Cell × ℕ). Joined touch26 (keys rows) (z .0) (v .0)) (sym (i .2)) (sym (j .2))
+              (path-out (i .0) (j .0) (i .1) (j .1) (same-linked words m t k m marks (omega arith) d (i .0) (j .0) (i .1) (j .1) (s .0 (sym a ∙ e ∙ b)))),
+          λ w. a ∙ s .1 (linked-same words m t k m marks (omega arith) d (i .0) (j .0) (i .1) (j .1)
+              (path-in (i .0) (j .0) (i .1) (j .1) (subst₂ (λ (z v : Cell × ℕ). Joined touch26 (keys rows) (z .0) (v .0)) (i .2) (j .2) w))) ∙ sym b,
+        )
 
   shared-agree : Shared touch26 rows → T firsts-agree
   shared-agree s =

@@ -9,15 +9,14 @@ use mathlib.Core.List.{List, [], _∷_, _++_, append-nil, List·Memᴰ as Mem, L
 use lib.Dec.{T, T-not, not-T, eqb, leb, ltb, eqb→eq, leb→le, ltb→lt}
 use lib.ListN.{length, drop, getD, replicate}
 use lib.Seq.{drop-cons}
-use borrow.Author.Tests.{eqb-true, eq-eqb}
 use Rattle.component.specs.Adjacent.{hasRoom}
 use Rattle.component.specs.Touch.{touches}
 use Rattle.component.specs.Tests.{both}
 use Rattle.model.specs.Lists.{keep, all, has, whilst, each, count}
 use Rattle.model.specs.Cells.{Cell, same, touch26}
 use Rattle.model.specs.Consistent.{listExact}
-use Rattle.model.specs.Laws.Tests.{T-true, T-false, true-of, false-of, same-test, decided, cond-yes, cond-no, eqb-of, neqb-of, and-fst, and-snd, and-both}
-use Rattle.model.specs.Laws.Orders.{cells, numbers, is-or}
+use Rattle.model.specs.Laws.Tests.{T-true, T-false, true-of, same-test, decided, eqb-of, neqb-of, and-fst, and-snd, and-both}
+use Rattle.model.specs.Laws.Orders.{cells}
 use Rattle.model.specs.Laws.Members.{keep-yes, keep-no, keep-none, keep-append, keep-in, keep-out, all-in, all-out, whilst-out, each-in, each-out, Once, once-nil, once-cons, once-head, once-tail, once-each, has-of, of-has, count-in, count-out, count-length}
 use Rattle.model.specs.Laws.Occupied.{Exact}
 use Rattle.model.specs.Laws.Consistency.{exact-in, exact-out}
@@ -152,7 +151,8 @@ module _ (ws : List ℕ) (tidy : listTidy ws ≡ true) where
                 let n : ℕ = numberOf c d in
                 let b : neighbourOf c n ≡ d = neighbour-of-number c d e room in
                 let w : length (keep (eqb n) nums) ≡ 1 = right n p ∙ ap {B = ℕ} (λ (x : Bool). cond x 1 0) (true-of (has same among (neighbourOf c n)) (has-of cells (mem-cast b m))) in
-                mem-cast (sym b) (each-in (neighbourOf c) (times-there n nums (omega arith))) }
+                mem-cast (sym b) (each-in (neighbourOf c) (times-there n nums (omega arith)));
+          }
         where
           right : (v : ℕ) → (1 ≤ v) × (v ≤ 26) → length (keep (eqb v) nums) ≡ cond (has same among (neighbourOf c v)) 1 0
           right v p =
@@ -217,7 +217,8 @@ module _ (ws : List ℕ) (tidy : listTidy ws ≡ true) where
           (record {
             once = once-nil;
             only = λ m. absurd (mem-nil m);
-            every = λ {d} m k. absurd (T-not (touches c d) (all-out (λ d. not (touches c d)) among n m) (T-true (touch-at d k))) })
+            every = λ {d} m k. absurd (T-not (touches c d) (all-out (λ d. not (touches c d)) among n m) (T-true (touch-at d k)));
+          })
 
       exact-near : Exact touch26 among c (listCells c ws) → T nothing-near
       exact-near e =

@@ -1,18 +1,18 @@
 -- Rows marked by connected parts: each row is marked with one more than the first row of its part.
-use Prim.Native.Nat.{ℕ, zero, suc, _+_, _*_, _≤_, _<_}
+use Prim.Native.Nat.{ℕ, zero, suc, _+_, _≤_, _<_}
 use native.Mathlib.Omega.{arith}
 use mathlib.Core.Path.{_≡_, refl, sym, ap, _∙_, subst}
 use mathlib.Core.Logic.{_⊎_, inl, inr, ⊎-elim}
 use mathlib.Core.Bool.{Bool, true, false, cond}
 use mathlib.Core.List.{List, [], _∷_, List·Memᴰ as Mem}
-use lib.Dec.{T, ltb, ltb→lt}
+use lib.Dec.{ltb, ltb→lt}
 use lib.ListN.{length, getD}
 use Rattle.model.specs.Lists.{has, keys, values, count}
 use Rattle.model.specs.Cells.{Cell, same, below, touch26}
-use Rattle.model.specs.Occupancy.{Occupancy, occupied}
+use Rattle.model.specs.Occupancy.{Occupancy}
 use Rattle.model.specs.Flood.{wholeFlood}
-use Rattle.model.specs.Paths.{stop, step, Joined}
-use Rattle.model.specs.Laws.Tests.{T-true, T-false, true-of, cond-yes}
+use Rattle.model.specs.Paths.{stop, Joined}
+use Rattle.model.specs.Laws.Tests.{T-true, T-false, cond-yes}
 use Rattle.model.specs.Laws.Orders.{cells, numbers, order-cases}
 use Rattle.model.specs.Laws.Members.{has-of, of-has}
 use Rattle.model.specs.Laws.Sorted.{Asc, count-asc, ascending-same}
@@ -21,7 +21,7 @@ use Rattle.model.specs.Laws.Touching.{touching-26}
 use Rattle.model.specs.Laws.Walks.{join, back}
 use Rattle.model.specs.Laws.Floods.{whole-in, whole-out}
 use Rattle.flood.specs.Rows.{rowCell}
-use Rattle.flood.specs.Standing.{Cells, Floodable, Flooded, floodFrom}
+use Rattle.flood.specs.Standing.{Cells, Floodable, floodFrom}
 use Rattle.flood.specs.Reads.{row-occupied}
 
 -- One entity in each cell.
@@ -60,7 +60,8 @@ module _ (words : List ℕ) (n : ℕ) (t : List (Cell × List Cell)) (k : Cells 
       record {
         asc = subst (λ (l : List ℕ). Asc ltb l) (sym (numbered-keys 0 (keys t))) (count-asc 0 (length (keys t)));
         cells = sym (ap (Rattle.model.specs.Lists.ascending below) (numbered-values 0 (keys t)) ∙ ascending-same cells (keys t) (k .asc));
-        exact = k .exact }
+        exact = k .exact;
+      }
 
   there : (j : ℕ) → j < n → Mem (rowCell words j) (keys t)
   there j h = row-occupied words n t k j h
@@ -95,7 +96,8 @@ module _ (words : List ℕ) (n : ℕ) (t : List (Cell × List Cell)) (k : Cells 
   labels-start marks z =
       record {
         none = λ j h e l g w. absurd (omega arith);
-        some = λ j l h e. let f = z j h in absurd (omega arith) }
+        some = λ j l h e. let f = z j h in absurd (omega arith);
+      }
 
   module _ (i : ℕ) (marks : List ℕ) (d : Labelled words n t i marks) where
     -- A row that is marked is passed over.
@@ -103,7 +105,8 @@ module _ (words : List ℕ) (n : ℕ) (t : List (Cell × List Cell)) (k : Cells 
     labels-skip h m =
         record {
           none = λ j g e l f w. ⊎-elim (λ q. d .none j g e l q w) (λ q. absurd (old j g e (subst (λ x. Linked words t x j) q w))) (below-or l f);
-          some = λ j l g e. let r = d .some j l g e in (let f = r .0 in omega arith, r .1, r .2) }
+          some = λ j l g e. let r = d .some j l g e in (let f = r .0 in omega arith, r .1, r .2);
+        }
       where
         below-or : (l : ℕ) → l < i + 1 → (l < i) ⊎ (l ≡ i)
         below-or l f = ⊎-elim (λ x. inl (ltb→lt l i x)) (λ x. ⊎-elim (λ y. inr y) (λ y. absurd (let z = ltb→lt i l y in omega arith)) x) (order-cases numbers l i)
@@ -129,7 +132,14 @@ module _ (words : List ℕ) (n : ℕ) (t : List (Cell × List Cell)) (k : Cells 
     pub labels-asks : (queue : List ℕ) → i < n → getD marks i 0 ≡ 0 → n ≤ length marks → n ≤ length queue → Floodable words n i (i + 1) marks queue
     labels-asks queue h z a b =
         record {
-          table = t; cells = k; seeded = h; labelled = λ e. absurd (omega arith); marksFit = a; queueFits = b; unmarked = labels-free h z }
+          table = t;
+          cells = k;
+          seeded = h;
+          labelled = λ e. absurd (omega arith);
+          marksFit = a;
+          queueFits = b;
+          unmarked = labels-free h z;
+        }
 
     -- A row that is not marked is flooded from.
     pub labels-flood : (h : i < n) → getD marks i 0 ≡ 0 → (marks′ : List ℕ)
@@ -146,9 +156,9 @@ module _ (words : List ℕ) (n : ℕ) (t : List (Cell × List Cell)) (k : Cells 
                 let y = sym (f j g ∙ ap {B = ℕ} (λ (b : Bool). cond b (i + 1) (getD marks j 0)) x) ∙ e in
                 ⊎-elim (λ u. d .none j g y l (ltb→lt l i u) w)
                 (λ u. ⊎-elim
-                  (λ v. lib.Dec.T-not (has same (floodFrom t n (rowCell words i)) (rowCell words j)) (T-false x)
-                    (has-of cells (linked-reached i h j (subst (λ a. Linked words t a j) v w))))
-                  (λ v. absurd (let a = ltb→lt i l v in omega arith)) u)
+                (λ v. lib.Dec.T-not (has same (floodFrom t n (rowCell words i)) (rowCell words j)) (T-false x)
+                (has-of cells (linked-reached i h j (subst (λ a. Linked words t a j) v w))))
+                (λ v. absurd (let a = ltb→lt i l v in omega arith)) u)
                 (order-cases numbers l i)
 
         some′ : (j l : ℕ) → j < n → getD marks′ j 0 ≡ suc l → (l < i + 1) × Linked words t l j × ((a : ℕ) → a < l → Linked words t a l → ⊥)
@@ -157,10 +167,11 @@ module _ (words : List ℕ) (n : ℕ) (t : List (Cell × List Cell)) (k : Cells 
             go : (b : Bool) → has same (floodFrom t n (rowCell words i)) (rowCell words j) ≡ b → (l < i + 1) × Linked words t l j × ((a : ℕ) → a < l → Linked words t a l → ⊥)
             go true x =
                 let y = sym (f j g ∙ ap {B = ℕ} (λ (b : Bool). cond b (i + 1) (getD marks j 0)) x) ∙ e in
-                let q : i ≡ l = omega arith in
-                (omega arith,
-                subst (λ a. Linked words t a j) q (reached-linked i h j (of-has cells (floodFrom t n (rowCell words i)) (T-true x))),
-                subst (λ m. (a : ℕ) → a < m → Linked words t a m → ⊥) q (λ a u w. d .none i h z a u w))
+                let q : i ≡ l = omega arith in (
+                  omega arith,
+                  subst (λ a. Linked words t a j) q (reached-linked i h j (of-has cells (floodFrom t n (rowCell words i)) (T-true x))),
+                  subst (λ m. (a : ℕ) → a < m → Linked words t a m → ⊥) q (λ a u w. d .none i h z a u w),
+                )
             go false x =
                 let y = sym (f j g ∙ ap {B = ℕ} (λ (b : Bool). cond b (i + 1) (getD marks j 0)) x) ∙ e in
                 let r = d .some j l g y in

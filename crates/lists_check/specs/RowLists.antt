@@ -1,13 +1,13 @@
 -- The rows of the occupied cells, each with the words of its list, and point 3 row by row.
-use Prim.Native.Nat.{ℕ, zero, suc, _+_, _-_, _*_, _≤_, _<_}
+use Prim.Native.Nat.{ℕ, zero, suc, _+_, _-_, _*_, _<_}
 use native.Mathlib.Nat.{suc-add, zero-add}
 use native.Mathlib.Omega.{arith}
 use mathlib.Core.Path.{_≡_, refl, sym, ap, _∙_}
 use mathlib.Core.Bool.{Bool, true, false, _&&_}
 use mathlib.Core.List.{List, [], _∷_}
-use lib.ListN.{length, take, drop, getD}
+use lib.ListN.{take, drop, getD}
 use lib.Seq.{drop-drop, take-nil}
-use Rattle.model.specs.Lists.{all, each, keys, values}
+use Rattle.model.specs.Lists.{all, each, values}
 use Rattle.model.specs.Cells.{Cell, touch26}
 use Rattle.model.specs.Consistent.{listExact}
 use Rattle.table.specs.Rows.{cell, cellAt, rowsOf, table4}

@@ -1,7 +1,8 @@
 // Whether the lists of the occupied cells are exact, and ids shared exactly by joined cells.
 use component::Cell;
 use scans::holds;
-use table::{cell_at, zero_from};
+use table::cell_at;
+use table::zero_from;
 ghost use mathlib.Core.Path.{_≡_};
 ghost use mathlib.Core.Bool.{true, cond, _&&_, not};
 ghost use Prim.Native.Nat.{_+_, _*_, _≤_, _<_};

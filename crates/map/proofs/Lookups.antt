@@ -1,23 +1,21 @@
 -- What a lookup reads from the words of a table.
-use Prim.Native.Nat.{ℕ, suc, _+_, _*_, _≤_, _<_}
+use Prim.Native.Nat.{ℕ, _+_, _*_, _≤_}
 use native.Mathlib.Omega.{arith}
-use mathlib.Core.Path.{_≡_, refl, sym, ap, _∙_}
+use mathlib.Core.Path.{_≡_, sym, ap, _∙_}
 use mathlib.Core.Bool.{true}
-use mathlib.Core.List.{List, []}
-use mathlib.Core.Option.{Option, none, some}
+use mathlib.Core.List.{List}
 use lib.Dec.{eqb, ltb}
-use lib.ListN.{length, drop, getD}
+use lib.ListN.{length, getD}
 use Rattle.component.specs.Order.{same, below}
 use Rattle.component.specs.declared.Cell.{Cell}
 use Rattle.model.specs.Lists.{keys, get}
 use Rattle.table.specs.declared.Place.the-variants.{Found, Missing}
-use Rattle.table.specs.Rows.{number, cell, cellAt, table1, table4, isTable1, isTable4, placeOf, rowsOf}
+use Rattle.table.specs.Rows.{number, cell, cellAt, table1, table4, isTable1, isTable4, placeOf}
 use Rattle.table.specs.Kinds.{number-lawful, cell-lawful}
 use Rattle.table.specs.Words.{rest-at}
 use Rattle.table.specs.Answers.{found-below, found-rest, missing-none}
 use Rattle.table.specs.Images.{table-facts}
 use Rattle.map.specs.Held.{counted}
-use Rattle.map.specs.declared.Stand.{Stand}
 use Rattle.map.specs.declared.Stand.the-variants.{Inside, Nowhere}
 use Rattle.map.specs.Stands.{standOf}
 use Rattle.map.specs.TallyLaws.{entity-cell}

@@ -1,25 +1,25 @@
 -- What an entity that enters or leaves asks of the tables, and how it leaves them.
-use Prim.Native.Nat.{ℕ, zero, suc, _+_, _-_, _*_, _≤_, _<_}
+use Prim.Native.Nat.{ℕ, suc, _+_, _-_, _≤_, _<_}
 use native.Mathlib.Numerals.{add-one}
 use native.Mathlib.Omega.{arith}
 use mathlib.Core.Path.{_≡_, refl, sym, ap, _∙_, subst}
 use mathlib.Core.Bool.{Bool, true, false, cond}
 use mathlib.Core.List.{List, [], _∷_, List·Memᴰ as Mem}
-use lib.Dec.{T, eqb, ltb, nltb→le, lt→ltb}
+use lib.Dec.{eqb, ltb, lt→ltb}
 use lib.ListN.{length}
 use Rattle.model.specs.Lists.{each, keys, get, put, dropKey}
-use Rattle.model.specs.Cells.{Cell, same, below, cellInRange, touch26}
+use Rattle.model.specs.Cells.{Cell, same, below, touch26}
 use Rattle.model.specs.Occupancy.{Occupancy, occupied, standsIn, withEntities, openCell, closeCell, enter, leave}
-use Rattle.model.specs.Laws.Tests.{T-true, T-false, true-of, false-of, nltb-of}
+use Rattle.model.specs.Laws.Tests.{T-false, true-of, false-of, nltb-of}
 use Rattle.model.specs.Laws.Members.{each-length}
 use Rattle.model.specs.Laws.Sorted.{Asc}
 use Rattle.model.specs.Laws.Tables.{keys-length}
 use Rattle.model.specs.Laws.Occupied.{not-occupied, at-occupied, occupied-asc}
 use Rattle.layout.specs.Rows.{entityRow, idRow, entitiesImage, idsImage}
 use Rattle.layout.specs.RowLaws.{entities-wide, ids-wide}
-use Rattle.table.specs.Rows.{number, cell, cellWords, table1, stored1, isTable1, hasRoom1, table4, stored4, isTable4, hasRoom4}
+use Rattle.table.specs.Rows.{number, cell, cellWords, table1, stored1, table4, stored4, hasRoom4}
 use Rattle.table.specs.Kinds.{number-lawful, cell-lawful}
-use Rattle.table.specs.Next.{room-space, room-there, put-next, drop-next}
+use Rattle.table.specs.Next.{room-there, put-next, drop-next}
 use Rattle.map.specs.declared.Counts.{Counts}
 use Rattle.map.specs.Told.{Shows}
 use Rattle.map.specs.Held.{standing, crowdOf, counted, Placed, Stored, Held, Opens, Closes, Enters, Leaves}

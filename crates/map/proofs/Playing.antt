@@ -1,21 +1,20 @@
 -- What a removal or a move comes to, by where the entity stands.
-use Prim.Native.Nat.{ℕ, suc, _+_, _*_, _≤_}
+use Prim.Native.Nat.{ℕ, _+_, _≤_}
 use native.Mathlib.Omega.{arith}
-use mathlib.Core.Path.{_≡_, refl, sym, ap, _∙_, subst}
+use mathlib.Core.Path.{_≡_, refl, sym, ap, _∙_}
 use mathlib.Core.Bool.{Bool, true, false, cond, not}
 use mathlib.Core.List.{List, [], _∷_, _++_}
 use mathlib.Core.Option.{Option, none, some}
 use lib.Dec.{eqb}
 use lib.ListN.{length}
-use Rattle.model.specs.Lists.{keep, each, get, dropKey, run, without}
+use Rattle.model.specs.Lists.{get, dropKey, run, without}
 use Rattle.model.specs.Cells.{Cell, same, cellInRange, touch26}
-use Rattle.model.specs.Occupancy.{Occupancy, occupied, standsIn, withEntities, leavesFrom, isAt, enters, pass, play, remove, moveTo, enter, leave, closeCell}
+use Rattle.model.specs.Occupancy.{Occupancy, occupied, standsIn, withEntities, leavesFrom, isAt, enters, pass, enter, leave, closeCell}
 use Rattle.model.specs.Laws.Tests.{T-true}
 use Rattle.model.specs.Laws.Orders.{numbers}
 use Rattle.model.specs.Laws.Members.{keep-shorter}
-use Rattle.model.specs.Laws.Tables.{At, Free, free-of, get-drop-self, keys-length}
+use Rattle.model.specs.Laws.Tables.{free-of, get-drop-self, keys-length}
 use Rattle.model.specs.Laws.Occupied.{occupied-leave}
-use Rattle.layout.specs.Rows.{entityRow}
 use Rattle.table.specs.Rows.{cellWords, table1}
 use Rattle.map.specs.declared.Counts.{Counts}
 use Rattle.map.specs.declared.Stand.{Stand}

@@ -1,18 +1,18 @@
 -- The words of a row while its list gains or loses a word.
-use Prim.Native.Nat.{ℕ, zero, suc, _+_, _-_, _≤_, _<_}
+use Prim.Native.Nat.{ℕ, suc, _+_, _-_, _≤_, _<_}
 use native.Mathlib.Numerals.{add-one}
 use native.Mathlib.Omega.{arith}
 use mathlib.Core.Path.{_≡_, refl, sym, ap, _∙_}
-use mathlib.Core.Bool.{Bool, true, false, cond, not}
+use mathlib.Core.Bool.{Bool, true, false, not}
 use mathlib.Core.List.{List, [], _∷_, _++_, append-assoc}
-use lib.Dec.{T, eqb}
+use lib.Dec.{eqb}
 use lib.ListN.{length, take, drop, getD, set, replicate, length-append, length-drop, length-replicate, drop-of-length-le}
 use lib.Seq.{take-suc, drop-cons, append-snoc, set-split, take-all, take-suc-set, drop-set-lt, length-take-le}
 use Rattle.model.specs.Lists.{keep}
-use Rattle.model.specs.Laws.Tests.{T-true, eqb-of, neqb-of, cond-yes, cond-no, true-of, false-of}
+use Rattle.model.specs.Laws.Tests.{T-true, eqb-of, neqb-of, cond-yes, cond-no, true-of}
 use Rattle.model.specs.Laws.Members.{keep-yes, keep-no}
 use Rattle.table.specs.Moves.{over}
-use Rattle.map.specs.Told.{appended, stripped, padded, revised, revisedRow, Squeezed}
+use Rattle.map.specs.Told.{appended, stripped, revised, revisedRow, Squeezed}
 
 append-nil : (l : List ℕ) → l ++ [] ≡ l
 append-nil [] = refl

@@ -1,30 +1,30 @@
 -- The ways out of the functions on the rows of tables.
-use Prim.Native.Nat.{ℕ, suc, _+_, _-_, _*_, _≤_, _<_}
+use Prim.Native.Nat.{ℕ, suc, _+_, _-_, _*_, _≤_}
 use native.Mathlib.Omega.{arith}
 use mathlib.Core.Path.{_≡_, refl, sym, ap, _∙_, subst}
 use mathlib.Core.Bool.{Bool, true, false, cond, not}
 use mathlib.Core.List.{List, [], _∷_, _++_, List·Memᴰ as Mem}
-use mathlib.Core.Option.{Option, none, some}
+use mathlib.Core.Option.{some}
 use lib.Dec.{eqb}
-use lib.ListN.{length, take, drop, getD, replicate, length-append, length-drop, length-replicate}
+use lib.ListN.{length, take, drop, replicate, length-append, length-drop, length-replicate}
 use lib.Seq.{length-take-le, drop-drop, take-at, drop-at, getD-take}
 use Rattle.component.specs.Order.{same, below}
 use Rattle.component.specs.declared.Cell.{Cell}
-use Rattle.model.specs.Lists.{keep, has, keys, get, put, dropKey, change}
+use Rattle.model.specs.Lists.{keep, has, keys, put, dropKey, change}
 use Rattle.model.specs.Laws.Tests.{true-of, false-of, T-true}
 use Rattle.model.specs.Laws.Orders.{cells}
 use Rattle.model.specs.Laws.Members.{has-of, hasnt-of, of-hasnt, keep-shorter}
 use Rattle.model.specs.Laws.Tables.{At, free-of, at-key, key-free, drop-free, asc-fair, free-key}
 use Rattle.table.specs.declared.Place.the-variants.{Found, Missing}
 use Rattle.table.specs.Moves.{over}
-use Rattle.table.specs.Rows.{cell, cellAt, table4, stored4, isTable4, placeOf, rowsOf}
+use Rattle.table.specs.Rows.{cell, cellAt, table4, stored4, isTable4, placeOf}
 use Rattle.table.specs.Kinds.{cell-lawful}
 use Rattle.table.specs.Words.{row-at, key-at, row-fits}
 use Rattle.table.specs.Images.{table-facts}
 use Rattle.table.specs.Answers.{found-below, found-is, found-rest, missing-none}
 use Rattle.table.specs.Next.{put-next, drop-next}
 use Rattle.table.proofs.Ways.{put-stored}
-use Rattle.map.specs.Told.{Shows, appended, stripped, padded, revised, revisedRow, toldOne}
+use Rattle.map.specs.Told.{Shows, appended, stripped, revised, revisedRow, toldOne}
 use Rattle.map.specs.TableLaws.{put-is-change, change-missing}
 
 -- A row that is written over the row of its cell leaves the table with it.
@@ -32,7 +32,7 @@ put-found : (w n : ℕ) (s r : List ℕ) (i : ℕ) → length r ≡ w → isTabl
     → (n, u) ≡ stored4 (length s) (put below (cellAt r 0) (drop 4 r) (table4 w n s))
 put-found w n s r i wide =
     subst (λ (v : ℕ). isTable4 v n s ≡ true → Found i ≡ placeOf below (keys (table4 v n s)) (cellAt r 0) → (u : List ℕ) → u ≡ over s (v * i) r
-      → (n, u) ≡ stored4 (length s) (put below (cellAt r 0) (drop 4 r) (table4 v n s))) wide
+    → (n, u) ≡ stored4 (length s) (put below (cellAt r 0) (drop 4 r) (table4 v n s))) wide
     (λ ok e u q. ap (λ (v : List ℕ). (n, v)) q ∙ put-stored cell n s r cell-lawful ok (Found i) e)
 
 -- A part that was lent and came back stands over what it was.

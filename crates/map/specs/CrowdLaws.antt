@@ -1,22 +1,22 @@
 -- How many entities stand in each cell, before and after one enters or leaves.
-use Prim.Native.Nat.{ℕ, zero, suc, _+_, _-_, _≤_, _<_}
+use Prim.Native.Nat.{ℕ, suc, _-_, _≤_, _<_}
 use native.Mathlib.Omega.{arith}
 use mathlib.Core.Path.{_≡_, refl, sym, ap, _∙_, subst}
-use mathlib.Core.Logic.{_⊎_, inl, inr, ⊎-elim}
+use mathlib.Core.Logic.{_⊎_, ⊎-elim}
 use mathlib.Core.Bool.{Bool, true, false, cond, _||_, not}
 use mathlib.Core.List.{List, [], _∷_, List·Memᴰ as Mem, List·Memᴰ·head as head, List·Memᴰ·tail as tail, Memᴰ·cast as mem-cast}
 use mathlib.Core.Option.{Option, none, some}
-use lib.Dec.{T, T-not, eqb, ltb, lt→ltb, nltb→le}
+use lib.Dec.{T-not, eqb, ltb, lt→ltb, nltb→le}
 use lib.ListN.{length}
-use Rattle.model.specs.Lists.{keep, any, has, add, ascending, without, each, keys, values, get, put, dropKey}
+use Rattle.model.specs.Lists.{keep, any, has, add, without, each, keys, get, put, dropKey}
 use Rattle.model.specs.Cells.{Cell, same, below}
 use Rattle.model.specs.Occupancy.{Occupancy, occupied, standsIn, enter, leave}
 use Rattle.model.specs.Laws.Tests.{cond-yes, cond-no, T-true, T-false, true-of, false-of, nltb-of}
 use Rattle.model.specs.Laws.Orders.{Ordered, numbers, cells, same-of, differ, is-or}
-use Rattle.model.specs.Laws.Members.{keep-each, keep-shorter, each-in, each-out, each-ext, each-each, each-same, keep-out, has-of, hasnt-of, of-has}
-use Rattle.model.specs.Laws.Sorted.{Asc, add-out, add-in, add-self, add-asc, add-old, ascending-asc}
-use Rattle.model.specs.Laws.Tables.{At, Free, at-mem, asc-mem-at, key-at, key-free, free-key, of-free, get-put-self, get-put-other, get-drop-other, get-drop-self, free-of, put-asc, drop-asc, mem-put-out, put-self, put-in, table-equal, table-same}
-use Rattle.model.specs.Laws.Occupied.{Sound, occupied-asc, occupied-in, occupied-enter, occupied-leave, of-stands, stands-of, occupied-stands, at-occupied}
+use Rattle.model.specs.Laws.Members.{keep-each, keep-shorter, each-in, each-out, each-ext, each-each, each-same, keep-out, has-of, of-has}
+use Rattle.model.specs.Laws.Sorted.{Asc, add-out, add-in, add-self, add-asc, add-old}
+use Rattle.model.specs.Laws.Tables.{At, Free, asc-mem-at, key-at, key-free, free-key, of-free, get-put-self, get-put-other, get-drop-other, get-drop-self, free-of, put-asc, drop-asc, mem-put-out, put-self, put-in, table-equal, table-same}
+use Rattle.model.specs.Laws.Occupied.{Sound, occupied-asc, occupied-enter, occupied-leave, occupied-stands, at-occupied}
 use Rattle.layout.specs.Rows.{idRow}
 use Rattle.map.specs.Held.{standing, tallied, tally, crowdOf, counted}
 use Rattle.map.specs.EachLaws.{under, get-each}

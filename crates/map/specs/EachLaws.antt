@@ -1,14 +1,13 @@
 -- Rows of words for the rows of a table: what is done to the one is done to the other.
-use Prim.Native.Nat.{ℕ, suc, _+_, _*_, _≤_}
-use native.Mathlib.Omega.{arith}
-use mathlib.Core.Path.{_≡_, refl, sym, ap, _∙_, subst}
+use Prim.Native.Nat.{ℕ, _*_, _≤_}
+use mathlib.Core.Path.{_≡_, refl, sym, ap, _∙_}
 use mathlib.Core.Bool.{Bool, true, false, cond, not}
 use mathlib.Core.List.{List, [], _∷_, List·Memᴰ as Mem}
 use mathlib.Core.Option.{Option, none, some}
 use lib.ListN.{length}
-use Rattle.model.specs.Lists.{keep, each, keys, get, put, dropKey, change, isAscending}
+use Rattle.model.specs.Lists.{each, keys, get, put, dropKey, change, isAscending}
 use Rattle.model.specs.Laws.Tests.{true-of}
-use Rattle.model.specs.Laws.Members.{keep-each, each-each, each-ext, each-length}
+use Rattle.model.specs.Laws.Members.{keep-each, each-each, each-ext}
 use Rattle.model.specs.Laws.Sorted.{Asc, isAscending-in}
 use Rattle.table.specs.Rows.{Kind, tableOf, imageOf, areWide, isTableOf}
 use Rattle.table.specs.Kinds.{Lawful}

@@ -1,11 +1,11 @@
 -- The cells near a cell: which of them are told, which numbers are noted, and how long lists are.
-use Prim.Native.Nat.{ℕ, zero, suc, _+_, _-_, _≤_, _<_}
+use Prim.Native.Nat.{ℕ, zero, suc, _-_, _≤_}
 use native.Mathlib.Omega.{arith}
 use mathlib.Core.Path.{_≡_, refl, sym, ap, _∙_, subst}
-use mathlib.Core.Logic.{_⊎_, inl, inr, ⊎-elim}
-use mathlib.Core.Bool.{Bool, true, false, cond, not}
-use mathlib.Core.List.{List, [], _∷_, _++_, List·Memᴰ as Mem, List·Memᴰ·head as head, List·Memᴰ·tail as tail, List·Memᴰ·cases-cons as mem-cons, Memᴰ·cast as mem-cast}
-use lib.Dec.{T, ltb, lt→ltb, ltb→lt}
+use mathlib.Core.Logic.{_⊎_, ⊎-elim}
+use mathlib.Core.Bool.{Bool, true, false, cond}
+use mathlib.Core.List.{List, List·Memᴰ as Mem, Memᴰ·cast as mem-cast}
+use lib.Dec.{T, ltb, ltb→lt}
 use lib.ListN.{length}
 use Rattle.component.specs.Order.{same, below}
 use Rattle.component.specs.declared.Cell.{Cell}
@@ -14,9 +14,9 @@ use Rattle.component.specs.AdjacentLaws.{room-above}
 use Rattle.component.specs.Neighbours.{neighbours-ordered}
 use Rattle.component.specs.Touch.{touches}
 use Rattle.model.specs.Lists.{keep, has, each, count}
-use Rattle.model.specs.Laws.Tests.{cond-yes, cond-no, T-true, T-false, true-of, false-of, decided}
+use Rattle.model.specs.Laws.Tests.{cond-yes, cond-no, T-true, true-of}
 use Rattle.model.specs.Laws.Orders.{cells, same-of, differ, is-or, numbers}
-use Rattle.model.specs.Laws.Members.{keep-in, keep-out, keep-each, each-in, each-out, each-each, each-same, each-length, count-in, count-out, count-length, has-of, of-has, Once, once-cons, once-shorter}
+use Rattle.model.specs.Laws.Members.{keep-in, keep-out, keep-each, each-in, each-out, each-each, each-same, each-length, count-in, count-out, count-length, has-of, of-has, Once, once-shorter}
 use Rattle.model.specs.Laws.Sorted.{Asc, keep-asc, each-asc, count-asc, asc-equal}
 use Rattle.layout.specs.Rows.{numberOf, neighbourOf}
 use Rattle.layout.specs.NumberLaws.{neighbour-at, neighbour-touches, number-of-neighbour, number-range, neighbour-of-number, number-back}

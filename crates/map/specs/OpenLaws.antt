@@ -1,29 +1,24 @@
 -- The tables after a cell opens or closes.
-use Prim.Native.Nat.{ℕ, zero, suc, _+_, _-_, _*_, _≤_, _<_}
-use native.Mathlib.Omega.{arith}
-use mathlib.Core.Path.{_≡_, refl, sym, ap, _∙_, subst}
+use Prim.Native.Nat.{ℕ, _+_, _-_, _≤_, _<_}
+use mathlib.Core.Path.{_≡_, refl, sym, ap, _∙_}
 use mathlib.Core.Bool.{Bool, true, false, cond, not}
 use mathlib.Core.Logic.{⊎-elim}
 use mathlib.Core.List.{List, [], _∷_, _++_, List·Memᴰ as Mem, List·Memᴰ·cases-cons as mem-cons}
-use lib.Dec.{T}
-use lib.ListN.{length, take, drop, replicate}
+use lib.ListN.{length}
 use Rattle.component.specs.Order.{same, below}
 use Rattle.component.specs.declared.Cell.{Cell}
 use Rattle.component.specs.Adjacent.{hasRoom}
 use Rattle.component.specs.Touch.{touches}
 use Rattle.component.specs.TouchLaws.{touches-flip}
 use Rattle.model.specs.Lists.{keep, has, each, add, without, keys, put, dropKey, change}
-use Rattle.model.specs.Laws.Tests.{T-true, T-false, true-of}
+use Rattle.model.specs.Laws.Tests.{T-false, true-of}
 use Rattle.model.specs.Laws.Orders.{Ordered, cells}
-use Rattle.model.specs.Laws.Members.{keep-out, keep-each, each-each, each-same, Once, once-cons}
+use Rattle.model.specs.Laws.Members.{keep-each, each-each, each-same, once-cons}
 use Rattle.model.specs.Laws.Sorted.{Asc}
 use Rattle.model.specs.Laws.Occupied.{Exact}
 use Rattle.layout.specs.Rows.{numberOf, neighbourOf, listWords, cellRow, netRow}
-use Rattle.table.specs.Rows.{cell, cellWords, key4, rest4, table4, stored4}
-use Rattle.table.specs.Kinds.{cell-lawful}
-use Rattle.table.specs.Next.{put-next, drop-next}
-use Rattle.map.specs.Told.{Shows, padded, revised, told, noted}
-use Rattle.map.specs.EachLaws.{keys-each, put-each, drop-each, change-each}
+use Rattle.map.specs.Told.{padded, revised, told, noted}
+use Rattle.map.specs.EachLaws.{keys-each, change-each}
 use Rattle.map.specs.NearLaws.{told-cell, few, noted-touching}
 use Rattle.map.specs.ListLaws.{list-padded, list-joined, list-left}
 

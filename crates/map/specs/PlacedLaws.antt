@@ -1,16 +1,16 @@
 -- An occupancy that is kept stays so when an entity enters or leaves.
-use Prim.Native.Nat.{ℕ, _≤_}
-use mathlib.Core.Path.{_≡_, refl, sym, ap, _∙_, subst}
-use mathlib.Core.Logic.{_⊎_, inl, inr, ⊎-elim}
+use Prim.Native.Nat.{ℕ}
+use mathlib.Core.Path.{_≡_, sym, subst}
+use mathlib.Core.Logic.{_⊎_, inr, ⊎-elim}
 use mathlib.Core.Bool.{Bool, true, false, cond, not}
-use mathlib.Core.List.{List, [], _∷_, List·Memᴰ as Mem, Memᴰ·cast as mem-cast}
-use lib.Dec.{T, eqb, ltb}
-use Rattle.model.specs.Lists.{keep, has, add, without, put, dropKey}
+use mathlib.Core.List.{List, List·Memᴰ as Mem}
+use lib.Dec.{eqb, ltb}
+use Rattle.model.specs.Lists.{has, add, put, dropKey}
 use Rattle.model.specs.Cells.{Cell, same, below, cellInRange, touch26}
 use Rattle.model.specs.Occupancy.{Occupancy, occupied, standsIn, withEntities, leaves, enters, openCell, closeCell, enter, leave}
 use Rattle.model.specs.Laws.Tests.{T-true}
 use Rattle.model.specs.Laws.Orders.{cells}
-use Rattle.model.specs.Laws.Members.{keep-out, without-in, without-out}
+use Rattle.model.specs.Laws.Members.{without-in, without-out}
 use Rattle.model.specs.Laws.Sorted.{Asc, keep-asc, add-asc, add-out, add-in, add-self}
 use Rattle.model.specs.Laws.Tables.{At, Free}
 use Rattle.model.specs.Laws.Touching.{touching-26}

@@ -1,11 +1,10 @@
 -- What the words of the map show, before and after a cell opens or closes.
-use Prim.Native.Nat.{ℕ, suc, _+_, _*_, _≤_}
+use Prim.Native.Nat.{ℕ, _+_}
 use native.Mathlib.Omega.{arith}
-use mathlib.Core.Path.{_≡_, refl, sym, ap, _∙_, subst}
-use mathlib.Core.Bool.{Bool, true, false, cond, not}
+use mathlib.Core.Path.{_≡_, sym, ap, _∙_, subst}
+use mathlib.Core.Bool.{true, false, cond, not}
 use mathlib.Core.List.{List, [], _∷_, _++_, List·Memᴰ as Mem}
-use lib.Dec.{T}
-use lib.ListN.{length, drop, length-drop}
+use lib.ListN.{length, length-drop}
 use Rattle.component.specs.Adjacent.{hasRoom}
 use Rattle.component.specs.AdjacentLaws.{range-room}
 use Rattle.model.specs.Lists.{keep, each, has, add, without, keys, put, dropKey, change}
@@ -15,7 +14,7 @@ use Rattle.model.specs.Laws.Tests.{true-of}
 use Rattle.model.specs.Laws.Members.{each-length, keep-out, key-in}
 use Rattle.model.specs.Laws.Sorted.{Asc}
 use Rattle.model.specs.Laws.Touching.{touch26-touches}
-use Rattle.model.specs.Laws.Occupied.{Exact, occupied-asc, occupied-out}
+use Rattle.model.specs.Laws.Occupied.{occupied-asc, occupied-out}
 use Rattle.layout.specs.Rows.{neighbourOf, listWords, cellRow, netRow, cellsImage, netImage}
 use Rattle.layout.specs.RowLaws.{cells-wide, nets-wide}
 use Rattle.table.specs.Rows.{cell, cellWords, key4, rest4, table4, stored4}

@@ -3,21 +3,21 @@ use Prim.Native.Nat.{ℕ, zero, suc, _+_, _-_, _≤_, _<_}
 use native.Mathlib.Numerals.{add-one}
 use native.Mathlib.Omega.{arith}
 use mathlib.Core.Path.{_≡_, refl, sym, ap, _∙_, subst}
-use mathlib.Core.Logic.{_⊎_, inl, inr, ⊎-elim}
+use mathlib.Core.Logic.{_⊎_, ⊎-elim}
 use mathlib.Core.Bool.{Bool, true, false, cond, not}
-use mathlib.Core.List.{List, [], _∷_, _++_, append-assoc, List·Memᴰ as Mem, List·Memᴰ·head as head, List·Memᴰ·tail as tail}
-use mathlib.Core.Option.{Option, none, some}
-use lib.Dec.{T, eqb}
+use mathlib.Core.List.{List, [], _∷_, _++_, List·Memᴰ as Mem, List·Memᴰ·head as head, List·Memᴰ·tail as tail}
+use mathlib.Core.Option.{some}
+use lib.Dec.{eqb}
 use lib.ListN.{length, take, drop, replicate, length-append, take-append-drop}
 use lib.Seq.{take-at, drop-at, length-take-le}
 use Rattle.component.specs.Order.{same}
 use Rattle.component.specs.declared.Cell.{Cell}
-use Rattle.model.specs.Lists.{keep, each, has, keys, get, put, change, count}
-use Rattle.model.specs.Laws.Tests.{cond-yes, cond-no, eqb-of, neqb-of, true-of, false-of, T-true}
-use Rattle.model.specs.Laws.Orders.{Ordered, same-of, differ, is-or}
+use Rattle.model.specs.Lists.{keep, has, keys, get, put, change, count}
+use Rattle.model.specs.Laws.Tests.{cond-yes, cond-no, neqb-of, T-true}
+use Rattle.model.specs.Laws.Orders.{Ordered, differ, is-or}
 use Rattle.model.specs.Laws.Members.{keep-append, keep-out, keep-shorter, count-out, count-length, key-in}
 use Rattle.model.specs.Laws.Sorted.{Asc}
-use Rattle.model.specs.Laws.Tables.{At, Free, at-once, at-put-self, at-change, at-unchange, get-same, get-put-self, get-put-other, put-asc, change-asc, table-same, change-same, change-change}
+use Rattle.model.specs.Laws.Tables.{At, at-change, at-unchange, get-same, get-put-self, get-put-other, put-asc, change-asc, table-same, change-same, change-change}
 use Rattle.map.specs.Told.{appended, padded, revised, revisedRow, toldOne, told, noted}
 
 module _ {K W : Type 0} {eq lt : K → K → Bool} (laws : Ordered eq lt) (k : K) (f : W → W) where

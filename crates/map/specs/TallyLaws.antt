@@ -1,23 +1,22 @@
 -- The tally of the entities, one entity after the other, and the crowd that it is.
-use Prim.Native.Nat.{ℕ, zero, suc, _+_, _-_, _*_, _≤_, _<_}
+use Prim.Native.Nat.{ℕ, suc, _+_, _-_, _*_, _≤_, _<_}
 use native.Mathlib.Numerals.{add-one}
 use native.Mathlib.Omega.{arith}
 use mathlib.Core.Path.{_≡_, refl, sym, ap, _∙_, subst}
-use mathlib.Core.Logic.{_⊎_, inl, inr, ⊎-elim}
-use mathlib.Core.Bool.{Bool, true, false, cond, not}
+use mathlib.Core.Logic.{_⊎_, ⊎-elim}
+use mathlib.Core.Bool.{Bool, true, cond}
 use mathlib.Core.List.{List, [], _∷_, _++_, List·Memᴰ as Mem, List·Memᴰ·head as head, List·Memᴰ·eq-of-singleton as mem-one, Memᴰ·append-left as append-left, Memᴰ·append-right as append-right, List·Memᴰ·append-cases as append-cases}
-use lib.Dec.{eqb, ltb}
-use lib.ListN.{length, take, drop, getD, replicate, length-append, take-append-drop}
-use lib.Seq.{drop-cons, drop-length}
-use Rattle.model.specs.Lists.{keep, has, add, ascending, each, keys, values, put, get}
+use lib.ListN.{length, drop, getD, replicate, length-append, take-append-drop}
+use lib.Seq.{drop-length}
+use Rattle.model.specs.Lists.{keep, add, ascending, each, keys, values, put, get}
 use Rattle.model.specs.Cells.{Cell, same, below}
-use Rattle.model.specs.Occupancy.{Occupancy, standsIn}
+use Rattle.model.specs.Occupancy.{Occupancy}
 use Rattle.model.specs.Laws.Tests.{cond-yes, cond-no}
 use Rattle.model.specs.Laws.Orders.{cells, differ}
 use Rattle.model.specs.Laws.Members.{keep-append, each-append, each-length, once-shorter, mem-or}
-use Rattle.model.specs.Laws.Sorted.{Asc, nil, asc-once, asc-equal, add-out, add-in, add-self, add-asc, add-length-new, ascending-asc, ascending-in, ascending-out}
+use Rattle.model.specs.Laws.Sorted.{nil, asc-once, asc-equal, add-out, add-in, add-self, add-asc, add-length-new, ascending-asc, ascending-in, ascending-out}
 use Rattle.model.specs.Laws.Occupied.{Sound, stands-has}
-use Rattle.layout.specs.Rows.{idRow, entityOf, entitiesImage, entitiesIn, idsImage}
+use Rattle.layout.specs.Rows.{idRow, entityOf, entitiesImage, entitiesIn}
 use Rattle.layout.specs.ImageLaws.{entities-laws}
 use Rattle.table.specs.Rows.{number, cell, cellAt, rowsOf, entryOf, tableOf, table1, table4, imageOf, hasRoom4}
 use Rattle.table.specs.Kinds.{cell-lawful}
@@ -25,8 +24,8 @@ use Rattle.table.specs.Words.{entry-at, take-table, table-length, rest-at}
 use Rattle.table.specs.Next.{room-space, room-there}
 use Rattle.map.specs.Told.{Shows}
 use Rattle.map.specs.Held.{standing, tallied, tally, crowdOf, counted}
-use Rattle.map.specs.EachLaws.{keys-each, image-shows, shows-image, shows-count}
-use Rattle.map.specs.CrowdLaws.{standing-few, tallied-keys, tallied-put, tallied-counted, crowd-tally}
+use Rattle.map.specs.EachLaws.{keys-each, image-shows, shows-count}
+use Rattle.map.specs.CrowdLaws.{tallied-keys, tallied-put, tallied-counted, crowd-tally}
 
 -- The cells of a list with one more, ascending.
 ascending-more : (l : List Cell) (c : Cell) → ascending below (l ++ (c ∷ [])) ≡ add below c (ascending below l)

@@ -7,7 +7,7 @@ use lib.Dec.{eqb}
 use lib.ListN.{length, take, drop, replicate}
 use Rattle.component.specs.Order.{same}
 use Rattle.component.specs.declared.Cell.{Cell}
-use Rattle.model.specs.Lists.{keep, has, keys, count}
+use Rattle.model.specs.Lists.{keep, has, count}
 use Rattle.table.specs.Rows.{Kind, tableOf, isTableOf}
 
 -- The words are those of a table of n rows of width w, and it is t.

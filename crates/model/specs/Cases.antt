@@ -1,5 +1,5 @@
 -- The twelve moves on paper, A to L, as one list.
-use Prim.Native.Nat.{ℕ, zero, _+_, _-_}
+use Prim.Native.Nat.{ℕ, _+_, _-_}
 use mathlib.Core.Bool.{Bool, true, false, _&&_}
 use mathlib.Core.List.{List, [], _∷_, _++_}
 use mathlib.Core.Option.{Option, none, some}
@@ -13,6 +13,8 @@ use Rattle.model.specs.Update.{State, fresh, update}
 use Rattle.model.specs.Questions.{groupBy}
 use Rattle.model.specs.Consistent.{sameCorner}
 pub mod Paper
+pub mod Slips
+pub mod KeptOut
 
 -- One thing to be seen after the batches of a case.
 pub data Seen : Type 0 where

@@ -8,3 +8,4 @@ pub mod Splits
 pub mod Ids
 pub mod UpdateIds
 pub mod Isolation
+pub mod Histories

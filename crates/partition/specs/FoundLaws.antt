@@ -1,5 +1,5 @@
 -- The ids at a cell's neighbours, tried in order.
-use Prim.Native.Nat.{ℕ, zero, suc, _+_, _-_, _*_, _≤_, _<_}
+use Prim.Native.Nat.{ℕ, zero, suc, _+_, _-_, _<_}
 use native.Mathlib.Omega.{arith}
 use native.Mathlib.Numerals.{add-one}
 use mathlib.Core.Path.{_≡_, refl, sym, ap, _∙_, subst}
@@ -13,12 +13,12 @@ use Rattle.component.specs.Adjacent.{hasRoom}
 use Rattle.component.specs.AdjacentLaws.{range-room, room-above}
 use Rattle.component.specs.Neighbours.{neighbours-ordered}
 use Rattle.component.specs.Touch.{touches}
-use Rattle.model.specs.Lists.{each, keep, has, gather, count, keys, values, get, only}
+use Rattle.model.specs.Lists.{each, keep, has, count, keys, values, get, only}
 use Rattle.model.specs.Cells.{Cell, same, below, cellInRange, touch26}
 use Rattle.model.specs.Groups.{Ids, foundAt}
-use Rattle.model.specs.Laws.Tests.{T-true, true-of, false-of, decided, cond-yes, cond-no}
+use Rattle.model.specs.Laws.Tests.{T-true, true-of}
 use Rattle.model.specs.Laws.Orders.{cells}
-use Rattle.model.specs.Laws.Members.{each-append, each-in, each-out, gather-append, keep-in, keep-out, keep-yes, keep-no, has-of, of-has, of-hasnt, count-in, count-out, key-in}
+use Rattle.model.specs.Laws.Members.{each-append, each-in, each-out, gather-append, keep-in, keep-out, has-of, of-has, of-hasnt, count-in, count-out}
 use Rattle.model.specs.Laws.Sorted.{Asc, each-asc, count-asc, keep-asc, asc-equal}
 use Rattle.model.specs.Laws.Tables.{keys-only, asc-mem-at, of-free, free-key}
 use Rattle.model.specs.Laws.Touching.{touch26-touches}
@@ -79,11 +79,11 @@ module _ (c : Cell) (ranged : T (cellInRange c)) where
   tried-asc =
       each-asc (neighbourOf c) (count 1 26)
       (λ a b m k l.
-        let p = count-out 1 26 m in
-        let q = count-out 1 26 k in
-        let h = ltb→lt a b l in
-        T-true ((λ i. below (neighbour-at c room a (omega arith) (omega arith) i) (neighbour-at c room b (omega arith) (omega arith) i))
-          ∙ neighbours-ordered 1 c (room-above 1 c room) (a - 1) (b - 1) (omega arith)))
+      let p = count-out 1 26 m in
+      let q = count-out 1 26 k in
+      let h = ltb→lt a b l in
+      T-true ((λ i. below (neighbour-at c room a (omega arith) (omega arith) i) (neighbour-at c room b (omega arith) (omega arith) i))
+      ∙ neighbours-ordered 1 c (room-above 1 c room) (a - 1) (b - 1) (omega arith)))
       (count-asc 1 26)
 
   tried-touch : {d : Cell} → Mem d (tried c 26) → T (touch26 c d)
@@ -106,11 +106,11 @@ module _ (c : Cell) (ranged : T (cellInRange c)) where
   tried-all t asc =
       ids-at-keep t (tried c 26)
       ∙ ap (idsAt t)
-        (asc-equal cells (keep (has same (keys t)) (tried c 26)) (keep (touch26 c) (keys t))
-          (keep-asc (has same (keys t)) (tried c 26) tried-asc) (keep-asc (touch26 c) (keys t) asc)
-          (λ a m. let r = keep-out (has same (keys t)) (tried c 26) m in keep-in (touch26 c) (of-has cells (keys t) (r .1)) (tried-touch (r .0)))
-          (λ a m. let r = keep-out (touch26 c) (keys t) m in keep-in (has same (keys t)) (touch-tried (r .1)) (has-of cells (r .0)))
-        ∙ sym (keys-only (touch26 c) t))
+      (asc-equal cells (keep (has same (keys t)) (tried c 26)) (keep (touch26 c) (keys t))
+      (keep-asc (has same (keys t)) (tried c 26) tried-asc) (keep-asc (touch26 c) (keys t) asc)
+      (λ a m. let r = keep-out (has same (keys t)) (tried c 26) m in keep-in (touch26 c) (of-has cells (keys t) (r .1)) (tried-touch (r .0)))
+      (λ a m. let r = keep-out (touch26 c) (keys t) m in keep-in (has same (keys t)) (touch-tried (r .1)) (has-of cells (r .0)))
+      ∙ sym (keys-only (touch26 c) t))
       ∙ ids-at-rows t (only (touch26 c) t) (λ q m. asc-mem-at cells t asc (keep-out (λ (p : Cell × ℕ). touch26 c (p .0)) t m .0) .is)
 
 module _ (t : Ids) (c : Cell) (k m : ℕ) (found : List ℕ) (so : take m found ≡ idsAt t (tried c k)) where

@@ -1,15 +1,14 @@
 -- What is read from words that hold a table, and what is held after a row is put.
 use Prim.Native.Nat.{ℕ, zero, suc, _+_, _-_, _*_, _≤_, _<_, min, max}
 use native.Mathlib.Omega.{arith}
-use native.Mathlib.Nat.{mul-suc, mul-le-mul-left}
 use mathlib.Core.Path.{_≡_, refl, sym, ap, _∙_, subst}
 use mathlib.Core.Bool.{Bool, true, false, cond}
-use mathlib.Core.List.{List, [], _∷_, _++_, List·Memᴰ as Mem, List·Memᴰ·head as head, Memᴰ·append-right as append-right}
+use mathlib.Core.List.{List, [], _∷_, List·Memᴰ as Mem, List·Memᴰ·head as head, Memᴰ·append-right as append-right}
 use mathlib.Core.Option.{Option, none, some}
 use lib.Dec.{T, eqb, ltb}
-use lib.ListN.{length, take, drop, getD, replicate, length-replicate, take-append-drop}
-use Rattle.model.specs.Lists.{each, all, keys, get, put, dropKey, only, keep}
-use Rattle.model.specs.Cells.{Cell, same, below, cellInRange}
+use lib.ListN.{length, take, drop, getD, replicate, take-append-drop}
+use Rattle.model.specs.Lists.{each, keys, get, put}
+use Rattle.model.specs.Cells.{Cell, below, cellInRange}
 use Rattle.model.specs.Groups.{Ids, Group}
 use Rattle.model.specs.Laws.Tests.{and-both, true-of, eqb-of}
 use Rattle.model.specs.Laws.Members.{each-length, each-each, each-same}
@@ -128,8 +127,10 @@ module _ (words : List ℕ) (n : ℕ) (t : Ids) (held : HeldTable words n t) whe
       let at : (j : ℕ) → j < 5 → getD r j 0 ≡ getD words (5 * i + j) 0 = λ j l. word-at 5 n words i j h l in
       let z : getD words (5 * i + 0) 0 ≡ getD words (5 * i) 0 = ap (λ (m : ℕ). getD words m 0) (omega arith) in
       let e : _≡_ {A = Cell × ℕ} (idOf (entryOf cell r)) (cellAt words (5 * i), getD words (5 * i + 4) 0) =
-        (λ k. (record { grid = (at 0 (omega arith) ∙ z) k; z = at 1 (omega arith) k; y = at 2 (omega arith) k; x = at 3 (omega arith) k },
-        rest-at 5 n words i 4 0 h (omega arith) k)) in
+      (λ k. (
+        record { grid = (at 0 (omega arith) ∙ z) k; z = at 1 (omega arith) k; y = at 2 (omega arith) k; x = at 3 (omega arith) k },
+        rest-at 5 n words i 4 0 h (omega arith) k,
+      )) in
       ap (drop i) (sym plain-read)
       ∙ sym (each-drop idOf i (tableOf cell 5 n words))
       ∙ ap (each idOf) (entry-at cell 5 n words i h)
@@ -225,7 +226,8 @@ module _ (words : List ℕ) (k : ℕ) (l : List (ℕ × Group)) (held : HeldGrou
         image = y ∙ ap (λ (len : ℕ). imageOf number len (each groupRow m)) (sym z);
         count = n;
         asc = put-asc numbers l g v (held .asc);
-        fits = omega arith }
+        fits = omega arith;
+      }
 
 -- Words that are all zero hold no record.
 pub groups-none : (words : List ℕ) → words ≡ replicate (length words) 0 → HeldGroups words 0 []
@@ -274,13 +276,13 @@ module _ (words : List ℕ) (k : ℕ) (l : List (ℕ × Group)) (held : HeldGrou
     group-grown c =
         let r : Group = group-found .0 in
         let key : getD words (9 * i) 0 ≡ g =
-          sym (number-at 9 k words (omega arith) i 0 (group-row .0)) ∙ found-is number number-lawful 9 k words g i 0 e in
+        sym (number-at 9 k words (omega arith) i 0 (group-row .0)) ∙ found-is number number-lawful 9 k words g i 0 e in
         let more : getD words (9 * i + 2) 0 + 1 ≡ suc (r .count) = omega (arith, group-word 1 (omega arith)) in
         let w : (j : ℕ) → 1 + j < 9 → getD words (9 * i + (1 + j)) 0 ≡ getD (groupTail r) j 0 = group-word in
         let one : grownWords words (9 * i) c ≡ g ∷ groupTail (grown (some r) c) =
-          (λ t. key t ∷ w 0 (omega arith) t ∷ more t
-            ∷ min (w 2 (omega arith) t) (c .x) ∷ min (w 3 (omega arith) t) (c .y) ∷ min (w 4 (omega arith) t) (c .z)
-            ∷ max (w 5 (omega arith) t) (c .x) ∷ max (w 6 (omega arith) t) (c .y) ∷ max (w 7 (omega arith) t) (c .z) ∷ []) in
+        (λ t. key t ∷ w 0 (omega arith) t ∷ more t
+        ∷ min (w 2 (omega arith) t) (c .x) ∷ min (w 3 (omega arith) t) (c .y) ∷ min (w 4 (omega arith) t) (c .z)
+        ∷ max (w 5 (omega arith) t) (c .x) ∷ max (w 6 (omega arith) t) (c .y) ∷ max (w 7 (omega arith) t) (c .z) ∷ []) in
         one ∙ ap (λ (o : Option Group). g ∷ groupTail (grown o c)) (sym (group-found .1))
 
   -- The record of a first cell.

@@ -1,31 +1,31 @@
 -- Cells with ids in words: what a search finds, and what is held after a row is put, taken out or given another id.
-use Prim.Native.Nat.{ℕ, zero, suc, _+_, _-_, _*_, _≤_, _<_}
+use Prim.Native.Nat.{ℕ, suc, _+_, _-_, _*_, _≤_, _<_}
 use native.Mathlib.Omega.{arith}
 use mathlib.Core.Path.{_≡_, refl, sym, ap, _∙_, subst}
 use mathlib.Core.Logic.{⊎-elim}
-use mathlib.Core.Bool.{Bool, true, false, cond, not}
+use mathlib.Core.Bool.{true, not}
 use mathlib.Core.List.{List, [], _∷_, _++_, append-assoc, List·Memᴰ as Mem}
 use mathlib.Core.Option.{Option, none, some}
 use lib.Dec.{T}
-use lib.ListN.{length, take, drop, getD, set, replicate, length-append, length-take, length-set, take-append-drop}
-use lib.Seq.{set-at, take-append-le, length-take-le}
-use Rattle.model.specs.Lists.{each, keys, get, put, gather, dropKey, keep, only}
+use lib.ListN.{length, take, drop, getD, set, replicate, length-append, length-set, take-append-drop}
+use lib.Seq.{set-at, length-take-le}
+use Rattle.model.specs.Lists.{each, keys, get, put, gather, dropKey}
 use Rattle.model.specs.Cells.{Cell, same, below, cellInRange}
 use Rattle.model.specs.Groups.{Ids}
 use Rattle.model.specs.Laws.Orders.{cells}
 use Rattle.model.specs.Laws.Members.{each-length, each-append, gather-append, keep-shorter, keep-out, keep-each, key-in, key-out}
 use Rattle.model.specs.Laws.Sorted.{Asc}
-use Rattle.model.specs.Laws.Tables.{keys-length, keys-put, put-asc, put-out, drop-asc}
-use Rattle.table.specs.Rows.{cell, cellAt, cellWords, rowsOf, rowOf, tableOf, imageOf, storedOf, isTableOf, hasRoomOf, placeOf, key4, rest4}
+use Rattle.model.specs.Laws.Tables.{put-asc, put-out, drop-asc}
+use Rattle.table.specs.Rows.{cell, cellAt, cellWords, rowsOf, rowOf, tableOf, imageOf, storedOf, isTableOf, hasRoomOf, placeOf, key4}
 use Rattle.table.specs.declared.Place.the-variants.{Found, Missing}
 use Rattle.table.specs.Kinds.{cell-lawful}
-use Rattle.table.specs.Answers.{found-below, found-is, found-rest, missing-none}
-use Rattle.table.specs.Images.{words-length, image-length}
+use Rattle.table.specs.Answers.{found-below, found-rest, missing-none}
+use Rattle.table.specs.Images.{words-length}
 use Rattle.table.specs.Next.{room-space}
 use Rattle.table.specs.Words.{rest-at}
 use Rattle.layout.specs.Rows.{idRow, idsImage}
 use Rattle.partition.specs.Held.{HeldRows, wordsOf}
-use Rattle.partition.specs.HeldLaws.{onSome, through-get, through-put, through-keys, put-shorter, rows-wide, stored-length, ids-table, ids-rows, ids-at, none-some, some-inj, oneId}
+use Rattle.partition.specs.HeldLaws.{onSome, through-get, through-put, put-shorter, rows-wide, stored-length, ids-table, ids-rows, ids-at, none-some, some-inj, oneId}
 
 -- Each row has five words.
 pub words-long : (t : Ids) → length (wordsOf t) ≡ 5 * length t
@@ -78,13 +78,14 @@ module _ (words : List ℕ) (n : ℕ) (t : Ids) (held : HeldRows words n t) wher
       let m : length (set words (5 * i + 4) v) ≡ length words = length-set words (5 * i + 4) v in
       record {
         image =
-          ap (λ (w : List ℕ). set w (5 * i + 4) v) (held .image ∙ ap (idsImage (length words)) e)
-          ∙ set-image (length words) (take i t) (drop (suc i) t) c g v (5 * i + 4) (omega arith)
-          ∙ ap (λ (z : ℕ). idsImage z u) (sym m);
+            ap (λ (w : List ℕ). set w (5 * i + 4) v) (held .image ∙ ap (idsImage (length words)) e)
+            ∙ set-image (length words) (take i t) (drop (suc i) t) c g v (5 * i + 4) (omega arith)
+            ∙ ap (λ (z : ℕ). idsImage z u) (sym m);
         count = k ∙ ap length e ∙ length-again (take i t) (drop (suc i) t) c g v;
         asc = subst (λ (x : List Cell). Asc below x) (sym s) (held .asc);
         ranged = λ d y. held .ranged d (subst (λ (x : List Cell). Mem d x) s y);
-        fits = omega (arith, held .fits) }
+        fits = omega (arith, held .fits);
+      }
 
   ids-get : (d : Cell) → get same (tableOf cell 5 n words) d ≡ onSome oneId (get same t d)
   ids-get d = ap (λ (u : List (Cell × List ℕ)). get same u d) (ids-rows words n t held) ∙ through-get oneId same t d
@@ -133,8 +134,8 @@ module _ (words : List ℕ) (n : ℕ) (t : Ids) (held : HeldRows words n t) wher
       let m : n ≡ length t = held .count in
       stored-held (put below c g t) r x (omega (arith, put-shorter cells t c g)) (put-asc cells t c g (held .asc))
       (λ d y. let o = key-out (put below c g t) y in
-        ⊎-elim (λ z. subst (λ (b : Cell). T (cellInRange b)) (sym (o .2 ∙ ap (λ (p : Cell × ℕ). p .0) z)) k)
-          (λ z. subst (λ (b : Cell). T (cellInRange b)) (sym (o .2)) (held .ranged (o .0 .0) (key-in z))) (put-out cells t c g (o .1)))
+      ⊎-elim (λ z. subst (λ (b : Cell). T (cellInRange b)) (sym (o .2 ∙ ap (λ (p : Cell × ℕ). p .0) z)) k)
+      (λ z. subst (λ (b : Cell). T (cellInRange b)) (sym (o .2)) (held .ranged (o .0 .0) (key-in z))) (put-out cells t c g (o .1)))
       (q ∙ ap (λ (u : List (Cell × List ℕ)). storedOf cell (length words) u) e)
 
   -- What is held after a row is taken out.
@@ -146,5 +147,5 @@ module _ (words : List ℕ) (n : ℕ) (t : Ids) (held : HeldRows words n t) wher
       let m : n ≡ length t = held .count in
       stored-held (dropKey same c t) r x (omega (arith, keep-shorter (λ (p : Cell × ℕ). not (same c (p .0))) t, held .fits)) (drop-asc cells c t (held .asc))
       (λ d y. let o = key-out (dropKey same c t) y in
-        subst (λ (b : Cell). T (cellInRange b)) (sym (o .2)) (held .ranged (o .0 .0) (key-in (keep-out (λ (p : Cell × ℕ). not (same c (p .0))) t (o .1) .0))))
+      subst (λ (b : Cell). T (cellInRange b)) (sym (o .2)) (held .ranged (o .0 .0) (key-in (keep-out (λ (p : Cell × ℕ). not (same c (p .0))) t (o .1) .0))))
       (q ∙ ap (storedOf cell (length words)) e)

@@ -3,13 +3,13 @@ use Prim.Native.Nat.{ℕ, zero, suc, _+_, _-_, _*_, _≤_, _<_}
 use native.Mathlib.Omega.{arith}
 use native.Mathlib.Numerals.{add-one}
 use mathlib.Core.Path.{_≡_, refl, sym, ap, _∙_, subst}
-use mathlib.Core.Bool.{Bool, true, false, cond, not, _||_, _&&_}
+use mathlib.Core.Bool.{Bool, true, false, cond, _||_, _&&_}
 use mathlib.Core.List.{List, [], _∷_, _++_, append-assoc, append-nil, List·Memᴰ as Mem, List·Memᴰ·head as head, List·Memᴰ·tail as tail, Memᴰ·append-right as append-right}
 use mathlib.Core.Logic.{⊎-elim}
-use lib.Dec.{T, eqb, ltb, eqb→eq}
+use lib.Dec.{eqb, ltb, eqb→eq}
 use lib.ListN.{length, take, drop, getD, set, length-append, take-append-drop, drop-of-length-le}
-use lib.Seq.{getD-take, drop-drop, take-suc, drop-cons, take-all, drop-length, take-nil, length-take-le, drop-at, take-at}
-use Rattle.model.specs.Lists.{each, keep, any, all, has, keys, values, change, only, put, run}
+use lib.Seq.{getD-take, drop-drop, drop-cons, take-all, length-take-le, drop-at, take-at}
+use Rattle.model.specs.Lists.{keep, all, has, keys, change, put, run}
 use Rattle.model.specs.Cells.{Cell, below, touch26}
 use Rattle.model.specs.Groups.{Ids, Groups, members, size, largestGroup, merge, foundAt, joinFound, rule1}
 use borrow.Author.Tests.{lt-ltb, le-ltb, eq-eqb, ne-eqb}
@@ -20,7 +20,7 @@ use Rattle.model.specs.Laws.Tables.{change-same}
 use Rattle.table.specs.Rows.{cellAt}
 use Rattle.partition.specs.Held.{HeldRows, HeldIds, HeldCells, joined}
 use Rattle.partition.specs.HeldLaws.{ids-at, cells-at}
-use Rattle.partition.specs.IdLaws.{ids-set, ids-split}
+use Rattle.partition.specs.IdLaws.{ids-set}
 
 drop-suc : {A : Type 0} (l : List A) (i : ℕ) → drop (suc i) l ≡ drop 1 (drop i l)
 drop-suc l i = ap (λ (m : ℕ). drop m l) (sym (add-one i)) ∙ sym (drop-drop 1 i l)
@@ -164,7 +164,7 @@ module _ (into : ℕ) (l : List ℕ) where
   merged c h = cond (has eqb l h) into h
 
   module _ (words₀ words : List ℕ) (n : ℕ) (t : Ids) (held₀ : HeldRows words₀ n t) (i : ℕ) (h : i < n) (held : HeldRows words n (partly merged t i))
-    (r : Bool) (e : r ≡ has eqb l (getD words (5 * i + 4) 0)) where
+      (r : Bool) (e : r ≡ has eqb l (getD words (5 * i + 4) 0)) where
     -- The group of row i is found.
     pub merge-set : r ≡ true → HeldRows (set words (5 * i + 4) into) n (partly merged t (i + 1))
     merge-set y = partly-set merged words₀ words n t held₀ i h held into (ap (λ (b : Bool). cond b into (getD words (5 * i + 4) 0)) (sym y ∙ e))
@@ -186,7 +186,7 @@ module _ (t : Ids) (c : Cell) (found : List ℕ) (k : ℕ) (one : 1 ≤ k) where
   join-done words₁ words₂ r into h e f =
       subst (λ (u : Ids). HeldRows words₂ r u)
       ((λ i. merge (e i) (take k found) (put below c (getD found 0 0) t))
-        ∙ (λ i. merge (largestGroup (put below c (sym first-found i) t) (sym first-found i) (drop 1 (take k found))) (take k found) (put below c (sym first-found i) t)))
+      ∙ (λ i. merge (largestGroup (put below c (sym first-found i) t) (sym first-found i) (drop 1 (take k found))) (take k found) (put below c (sym first-found i) t)))
       (f (put below c (getD found 0 0) t) h)
 
 -- Whether the first k are all g, tried from j on.
@@ -234,8 +234,8 @@ join-same t c found k one a words r h =
     let d : (x : ℕ) → Mem x (drop 1 l) → x ≡ g = λ x m. f x (subst (λ (y : List ℕ). Mem x y) (take-append-drop 1 l) (append-right (take 1 l) m)) in
     subst (λ (u : Ids). HeldRows words r u)
     (sym ((λ i. merge (largestGroup (put below c (e i) t) (e i) (drop 1 l)) l (put below c (e i) t))
-      ∙ ap (λ (x : ℕ). merge x l (put below c g t)) (largest-same (put below c g t) g (drop 1 l) d)
-      ∙ merge-nothing (put below c g t) g l f))
+    ∙ ap (λ (x : ℕ). merge x l (put below c g t)) (largest-same (put below c g t) g (drop 1 l) d)
+    ∙ merge-nothing (put below c g t) g l f))
     h
 
 joined-some : (s : Groups) (c : Cell) (l : List ℕ) → 1 ≤ length l → joinFound touch26 s c l ≡ record { ids = joined (s .ids) c l; next = s .next }
@@ -263,14 +263,14 @@ rule1-some words words₁ n next r s c found k held e z b f =
 
 -- One newly occupied cell after the other.
 module _ (occupied : List ℕ) (m : ℕ) (l : List Cell) (cells : HeldCells occupied m l) (s : Groups) (i : ℕ) (words : List ℕ) (n next : ℕ)
-  (held : HeldIds words n next (run (rule1 touch26) s (take i l))) where
+    (held : HeldIds words n next (run (rule1 touch26) s (take i l))) where
   pub rules1-more : i < m → (words₁ : List ℕ) (r next₁ : ℕ) (c : Cell) → c ≡ cellAt occupied (4 * i)
       → ((u : Groups) → HeldIds words n next u → HeldIds words₁ r next₁ (rule1 touch26 u c)) → HeldIds words₁ r next₁ (run (rule1 touch26) s (take (i + 1) l))
   rules1-more h words₁ r next₁ c e f =
       let a : take (i + 1) l ≡ take i l ++ cellAt occupied (4 * i) ∷ [] = ap (λ (j : ℕ). take j l) (add-one i) ∙ take-more l i (cellAt occupied (4 * i)) (cells-at occupied m l cells i h) in
       subst (λ (u : Groups). HeldIds words₁ r next₁ u)
       (ap (rule1 touch26 (run (rule1 touch26) s (take i l))) e
-        ∙ sym (ap (run (rule1 touch26) s) a ∙ run-append (rule1 touch26) s (take i l) (cellAt occupied (4 * i) ∷ [])))
+      ∙ sym (ap (run (rule1 touch26) s) a ∙ run-append (rule1 touch26) s (take i l) (cellAt occupied (4 * i) ∷ [])))
       (f (run (rule1 touch26) s (take i l)) held)
 
   pub rules1-all : m ≤ i → HeldIds words n next (run (rule1 touch26) s l)

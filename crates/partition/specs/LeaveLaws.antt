@@ -6,22 +6,21 @@ use mathlib.Core.Path.{_≡_, refl, sym, ap, _∙_, subst}
 use mathlib.Core.Bool.{Bool, true, false, cond, not}
 use mathlib.Core.List.{List, [], _∷_, _++_, append-assoc, append-nil, List·Memᴰ as Mem}
 use lib.Dec.{T}
-use lib.ListN.{length, take, drop, getD, replicate, length-append, length-drop, length-take, length-replicate, replicate-append-replicate}
-use lib.Seq.{getD-drop, take-at, drop-at, take-all, take-add, drop-drop, length-take-le, drop-append-add}
-use Rattle.model.specs.Lists.{each, keep, has, gather, keys, only}
-use Rattle.model.specs.Cells.{Cell, same, below, cellInRange, touch26}
-use Rattle.model.specs.Groups.{Ids, Groups, rule2}
+use lib.ListN.{length, take, drop, getD, replicate, length-append, length-replicate, replicate-append-replicate}
+use lib.Seq.{getD-drop, take-at, drop-at, take-all, drop-drop, length-take-le}
+use Rattle.model.specs.Lists.{has, keys}
+use Rattle.model.specs.Cells.{Cell, same, below, cellInRange}
+use Rattle.model.specs.Groups.{Ids}
 use Rattle.model.specs.Laws.Tests.{true-of, false-of}
 use Rattle.model.specs.Laws.Orders.{cells}
-use Rattle.model.specs.Laws.Members.{keep-append, keep-shorter, keep-out, key-in, key-out, has-of, hasnt-of}
-use Rattle.model.specs.Laws.Sorted.{Asc}
+use Rattle.model.specs.Laws.Members.{keep-append, keep-out, key-in, key-out, has-of, hasnt-of}
 use Rattle.model.specs.Laws.Tables.{only-asc}
 use Rattle.table.specs.declared.Place.the-variants.{Found, Missing}
 use Rattle.table.specs.Moves.{over}
 use Rattle.table.specs.Places.{found-within, found-key, missing-key}
-use Rattle.table.specs.Rows.{cell, cellAt, tableOf, imageOf, rowOf, placeOf}
-use Rattle.layout.specs.Rows.{idRow, idsImage}
-use Rattle.partition.specs.Held.{HeldRows, HeldIds, HeldCells, wordsOf, stay, Sifted}
+use Rattle.table.specs.Rows.{cell, cellAt, tableOf, imageOf, placeOf}
+use Rattle.layout.specs.Rows.{idsImage}
+use Rattle.partition.specs.Held.{HeldRows, HeldCells, wordsOf, stay, Sifted}
 use Rattle.partition.specs.HeldLaws.{ids-at, cells-keys}
 use Rattle.partition.specs.IdLaws.{words-long, words-append}
 use Rattle.partition.specs.JoinLaws.{take-more}
@@ -49,7 +48,7 @@ pub sift-none : (words : List ℕ) (l : List Cell) (t : Ids) → Sifted words wo
 sift-none words l t = record { count = refl; front = refl }
 
 module _ (words₀ words : List ℕ) (n : ℕ) (t : Ids) (held : HeldRows words₀ n t) (l : List Cell) (i j : ℕ) (h : i < n)
-  (back : drop (5 * i) words ≡ drop (5 * i) words₀) (long : 5 * n ≤ length words) (low : j ≤ i) (so : Sifted words₀ words i j l t) where
+    (back : drop (5 * i) words ≡ drop (5 * i) words₀) (long : 5 * n ≤ length words) (low : j ≤ i) (so : Sifted words₀ words i j l t) where
   word-back : (a : ℕ) → getD words (5 * i + a) 0 ≡ getD words₀ (5 * i + a) 0
   word-back a = sym (getD-drop (5 * i) words a 0) ∙ ap (λ (w : List ℕ). getD w a 0) back ∙ getD-drop (5 * i) words₀ a 0
 
@@ -96,11 +95,12 @@ module _ (words₀ words : List ℕ) (n : ℕ) (t : Ids) (held : HeldRows words�
       record {
         count = omega (arith, so .count, ap length a, length-append (stay l (take i t)) (row₀ ∷ []));
         front =
-          ap (take (5 * (j + 1))) (q ∙ sym (append-assoc (take (5 * j) words) copied (drop (5 * j + 5) words)))
-          ∙ take-at (take (5 * j) words ++ copied) (drop (5 * j + 5) words) (5 * (j + 1)) d
-          ∙ (λ k. so .front k ++ copied-is k)
-          ∙ sym (words-append (stay l (take i t)) (row₀ ∷ []))
-          ∙ ap wordsOf (sym a) }
+            ap (take (5 * (j + 1))) (q ∙ sym (append-assoc (take (5 * j) words) copied (drop (5 * j + 5) words)))
+            ∙ take-at (take (5 * j) words ++ copied) (drop (5 * j + 5) words) (5 * (j + 1)) d
+            ∙ (λ k. so .front k ++ copied-is k)
+            ∙ sym (words-append (stay l (take i t)) (row₀ ∷ []))
+            ∙ ap wordsOf (sym a);
+      }
 
   -- The words behind row i are as they were.
   pub sift-back : (x : List ℕ) → x ≡ over words (5 * j) copied → drop (5 * (i + 1)) x ≡ drop (5 * (i + 1)) words₀
@@ -150,11 +150,11 @@ sift-all words₀ words x n t held l i j e h back long so q =
     let wl : length (wordsOf (stay l t)) ≡ 5 * j = words-long (stay l t) ∙ ap (λ (m : ℕ). 5 * m) (sym cnt) in
     let z : 5 * j + length (replicate {A = ℕ} (5 * (n - j)) 0) ≡ 5 * n = omega (arith, length-replicate {A = ℕ} (5 * (n - j)) 0) in
     let b : drop (5 * n) words ≡ replicate (len - 5 * n) 0 =
-      ap (λ (m : ℕ). drop (5 * m) words) e ∙ back ∙ ap (λ (m : ℕ). drop (5 * m) words₀) (sym e) ∙ behind-zero words₀ n t held ∙ ap (λ (m : ℕ). replicate (m - 5 * n) 0) (sym long) in
+    ap (λ (m : ℕ). drop (5 * m) words) e ∙ back ∙ ap (λ (m : ℕ). drop (5 * m) words₀) (sym e) ∙ behind-zero words₀ n t held ∙ ap (λ (m : ℕ). replicate (m - 5 * n) 0) (sym long) in
     let w : 5 * (n - j) + (len - 5 * n) ≡ len - 5 * j = omega arith in
     let y : x ≡ wordsOf (stay l t) ++ replicate (len - 5 * j) 0 =
-      q ∙ (λ k. (so .front ∙ ap (λ (v : Ids). wordsOf (stay l v)) u) k ++ (replicate (5 * (n - j)) 0 ++ (ap (λ (m : ℕ). drop m words) z ∙ b) k))
-      ∙ ap (λ (v : List ℕ). wordsOf (stay l t) ++ v) (replicate-append-replicate (5 * (n - j)) (len - 5 * n) 0 ∙ ap (λ (m : ℕ). replicate m 0) w) in
+    q ∙ (λ k. (so .front ∙ ap (λ (v : Ids). wordsOf (stay l v)) u) k ++ (replicate (5 * (n - j)) 0 ++ (ap (λ (m : ℕ). drop m words) z ∙ b) k))
+    ∙ ap (λ (v : List ℕ). wordsOf (stay l t) ++ v) (replicate-append-replicate (5 * (n - j)) (len - 5 * n) 0 ∙ ap (λ (m : ℕ). replicate m 0) w) in
     let lx : length x ≡ len = ap length y ∙ length-append (wordsOf (stay l t)) (replicate (len - 5 * j) 0) ∙ omega (arith, length-replicate {A = ℕ} (len - 5 * j) 0) in
     let v : len - 5 * j ≡ length x - length (wordsOf (stay l t)) = omega arith in
     record {
@@ -162,5 +162,6 @@ sift-all words₀ words x n t held l i j e h back long so q =
       count = cnt;
       asc = only-asc cells (λ d. not (has same l d)) t (held .asc);
       ranged = λ d k. let o = key-out (stay l t) k in
-        subst (λ (a : Cell). T (cellInRange a)) (sym (o .2)) (held .ranged (o .0 .0) (key-in (keep-out (λ (p : Cell × ℕ). not (has same l (p .0))) t (o .1) .0)));
-      fits = omega arith }
+          subst (λ (a : Cell). T (cellInRange a)) (sym (o .2)) (held .ranged (o .0 .0) (key-in (keep-out (λ (p : Cell × ℕ). not (has same l (p .0))) t (o .1) .0)));
+      fits = omega arith;
+    }

@@ -1,19 +1,18 @@
 -- The group records of cells with one more at the end.
-use Prim.Native.Nat.{ℕ, zero, suc, _+_, _*_, _≤_, _<_}
+use Prim.Native.Nat.{ℕ, suc, _+_, _*_, _≤_, _<_}
 use native.Mathlib.Omega.{arith}
 use native.Mathlib.Numerals.{add-one}
 use mathlib.Core.Path.{_≡_, refl, sym, ap, _∙_, subst}
 use mathlib.Core.Logic.{⊎-elim}
-use mathlib.Core.Bool.{Bool, true, false, cond}
 use mathlib.Core.List.{List, [], _∷_, _++_, append-nil, List·Memᴰ as Mem, List·Memᴰ·not-nil as mem-nil, List·Memᴰ·eq-of-singleton as mem-one}
-use mathlib.Core.Option.{Option, none, some}
+use mathlib.Core.Option.{Option, some}
 use lib.Dec.{eqb, ltb, eqb-refl}
 use lib.ListN.{length, take, drop, getD, length-append, length-take}
 use lib.Seq.{take-suc, drop-cons, take-all}
-use Rattle.model.specs.Lists.{keep, keys, get, put, run, values, ascending}
+use Rattle.model.specs.Lists.{keep, keys, get, put, values, ascending}
 use Rattle.model.specs.Cells.{Cell}
-use Rattle.model.specs.Groups.{Ids, members, Group, groupOf, lower, higher, cornerAt, recordOf, records}
-use Rattle.model.specs.Laws.Tests.{cond-yes, cond-no, neqb-of}
+use Rattle.model.specs.Groups.{Ids, members, Group, lower, higher, cornerAt, recordOf, records}
+use Rattle.model.specs.Laws.Tests.{neqb-of}
 use Rattle.model.specs.Laws.Orders.{numbers, is-or}
 use Rattle.model.specs.Laws.Members.{keep-append, keep-yes, keep-no, each-append, run-append, keep-shorter, each-length, gather-out}
 use Rattle.model.specs.Laws.Sorted.{Asc, ascending-asc, ascending-length}
@@ -27,10 +26,11 @@ use Rattle.table.specs.Rows.{cellAt}
 shown-more : (l : List Cell) (c : Cell) → shownOf (l ++ c ∷ []) ≡ some (grown (shownOf l) c)
 shown-more [] c = refl
 shown-more (d ∷ l) c = λ i. some (record {
-    grid = d .grid;
-    count = suc (longer i);
-    low = run-append lower (cornerAt d) l (c ∷ []) i;
-    high = run-append higher (cornerAt d) l (c ∷ []) i })
+  grid = d .grid;
+  count = suc (longer i);
+  low = run-append lower (cornerAt d) l (c ∷ []) i;
+  high = run-append higher (cornerAt d) l (c ∷ []) i;
+})
   where
     longer : length (l ++ c ∷ []) ≡ suc (length l)
     longer = length-append l (c ∷ []) ∙ omega arith
@@ -62,14 +62,14 @@ module _ (t : Ids) (c : Cell) (g : ℕ) where
       table-same numbers (records (t ++ (c, g) ∷ [])) (put ltb g v (records t))
       (records-asc (t ++ (c, g) ∷ [])) (put-asc numbers (records t) g v (records-asc t))
       (λ a. ⊎-elim
-        (λ e. ap (λ (h : ℕ). get eqb (records (t ++ (c, g) ∷ [])) h) e
-          ∙ records-get (t ++ (c, g) ∷ []) g ∙ ap shownOf members-more ∙ shown-more (members t g) c
-          ∙ ap (λ (o : Option Group). some (grown o c)) (sym (records-get t g))
-          ∙ sym (get-put-self numbers (records t) g v)
-          ∙ ap (λ (h : ℕ). get eqb (put ltb g v (records t)) h) (sym e))
-        (λ n. records-get (t ++ (c, g) ∷ []) a ∙ ap shownOf (members-other a n) ∙ sym (records-get t a)
-          ∙ sym (get-put-other numbers (records t) g v a n))
-        (is-or numbers a g))
+      (λ e. ap (λ (h : ℕ). get eqb (records (t ++ (c, g) ∷ [])) h) e
+      ∙ records-get (t ++ (c, g) ∷ []) g ∙ ap shownOf members-more ∙ shown-more (members t g) c
+      ∙ ap (λ (o : Option Group). some (grown o c)) (sym (records-get t g))
+      ∙ sym (get-put-self numbers (records t) g v)
+      ∙ ap (λ (h : ℕ). get eqb (put ltb g v (records t)) h) (sym e))
+      (λ n. records-get (t ++ (c, g) ∷ []) a ∙ ap shownOf (members-other a n) ∙ sym (records-get t a)
+      ∙ sym (get-put-other numbers (records t) g v a n))
+      (is-or numbers a g))
 
 -- There are at most as many records as cells.
 pub records-shorter : (t : Ids) → length (records t) ≤ length t
@@ -112,7 +112,7 @@ module _ (words groups : List ℕ) (n k i : ℕ) (t : Ids) (held : HeldTable wor
       let d : _≡_ {A = List (Cell × ℕ)} (getD t i p ∷ drop (suc i) t) (p ∷ drop (suc i) t) = sym (drop-cons t i p (omega arith)) ∙ plain-at words n t held i h in
       let e : getD t i p ≡ p = ap (λ (l : List (Cell × ℕ)). getD l 0 p) d in
       let u : take (i + 1) t ≡ take i t ++ p ∷ [] =
-        ap (λ (m : ℕ). take m t) (add-one i) ∙ take-suc t i p (omega arith) ∙ ap (λ (q : Cell × ℕ). take i t ++ q ∷ []) e in
+      ap (λ (m : ℕ). take m t) (add-one i) ∙ take-suc t i p (omega arith) ∙ ap (λ (q : Cell × ℕ). take i t ++ q ∷ []) e in
       subst (λ (l : List (ℕ × Group)). HeldGroups x r l) (sym (ap records u ∙ records-more (take i t) (p .0) (p .1))) (subst (λ (d : Cell). HeldGroups x r (put ltb (p .1) (grown (get eqb (records (take i t)) (p .1)) d) (records (take i t)))) b (f (records (take i t)) done))
 
 -- The records of all cells are held in the end.

@@ -1,7 +1,15 @@
 // Groups of touching cells: the cells that have an id, row by row in lent words, and the rules that keep them.
 use component::Cell;
 use layout::neighbour_of;
-use table::{cell_at, find1, find4, put1, put4, remove4, write_row, write_zeros, Place};
+use table::Place;
+use table::cell_at;
+use table::find1;
+use table::find4;
+use table::put1;
+use table::put4;
+use table::remove4;
+use table::write_row;
+use table::write_zeros;
 ghost use mathlib.Core.Path.{_≡_};
 ghost use Prim.Native.Nat.{ℕ, suc, _+_, _*_, _<_, _≤_, min, max};
 ghost use mathlib.Core.List.{List, [], _∷_, List·Memᴰ};
@@ -281,7 +289,13 @@ fn copy_row(ids: &mut [u64], i: usize, j: usize)
     requires { ⌜ (j ≤ i) × (5 * i + 5 ≤ length (now ids)) ⌝ }
     ensures { λ _. ⌜ now (ids .exit) ≡ over (now (ids .entry)) (5 * j) (getD (now (ids .entry)) (5 * i) 0 ∷ getD (now (ids .entry)) (5 * i + 1) 0 ∷ getD (now (ids .entry)) (5 * i + 2) 0 ∷ getD (now (ids .entry)) (5 * i + 3) 0 ∷ getD (now (ids .entry)) (5 * i + 4) 0 ∷ []) ⌝ }
 {
-    let row = [ids[5 * i], ids[5 * i + 1], ids[5 * i + 2], ids[5 * i + 3], ids[5 * i + 4]];
+    let row = [
+        ids[5 * i],
+        ids[5 * i + 1],
+        ids[5 * i + 2],
+        ids[5 * i + 3],
+        ids[5 * i + 4],
+    ];
     write_row(ids, 5 * j, &row);
 }
 

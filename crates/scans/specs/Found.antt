@@ -1,10 +1,8 @@
 -- Whether a search finds a cell among the keys of a table, as a test.
 use Prim.Native.Nat.{ℕ}
-use native.Mathlib.Omega.{arith}
-use mathlib.Core.Path.{_≡_, sym, subst}
+use mathlib.Core.Path.{_≡_, subst}
 use mathlib.Core.Bool.{true, false}
 use mathlib.Core.List.{List, List·Memᴰ as Mem}
-use lib.ListN.{length, getD}
 use Rattle.model.specs.Lists.{has, keys}
 use Rattle.model.specs.Cells.{Cell, same, below}
 use Rattle.model.specs.Laws.Tests.{true-of, false-of}

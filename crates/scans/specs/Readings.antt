@@ -1,10 +1,10 @@
 -- The tables of a state, read row by row from their words.
-use Prim.Native.Nat.{ℕ, suc, _+_, _*_, _≤_, _<_}
+use Prim.Native.Nat.{ℕ, _+_, _*_, _≤_}
 use native.Mathlib.Omega.{arith}
-use mathlib.Core.Path.{_≡_, refl, sym, ap, _∙_}
+use mathlib.Core.Path.{_≡_, ap, _∙_}
 use mathlib.Core.List.{List, []}
-use lib.ListN.{length, drop, getD}
-use Rattle.model.specs.Lists.{each, keys, values}
+use lib.ListN.{getD}
+use Rattle.model.specs.Lists.{keys, values}
 use Rattle.model.specs.Cells.{Cell}
 use Rattle.model.specs.Laws.Members.{each-each}
 use Rattle.table.specs.Rows.{Kind, number, cell, cellAt, rowsOf, entryOf, tableOf, table1, table4}
@@ -26,12 +26,12 @@ unfolding entitiesIn
 entity-lines n s =
     lines-as (lines-each (λ (p : ℕ × Cell). p .1) (lines-each entityOf (row-lines number 5 n s)))
     (λ i h.
-      let one : (a b : ℕ) → a ≡ b → getD s a 0 ≡ getD s b 0 = λ a b e. ap (λ m. getD s m 0) e in
-      let g = rest-at 5 n s i 1 0 h (omega arith) in
-      let z = rest-at 5 n s i 1 1 h (omega arith) ∙ one (5 * i + 2) (5 * i + 1 + 1) (omega arith) in
-      let y = rest-at 5 n s i 1 2 h (omega arith) ∙ one (5 * i + 3) (5 * i + 1 + 2) (omega arith) in
-      let x = rest-at 5 n s i 1 3 h (omega arith) ∙ one (5 * i + 4) (5 * i + 1 + 3) (omega arith) in
-      λ t. record { grid = g t; z = z t; y = y t; x = x t })
+    let one : (a b : ℕ) → a ≡ b → getD s a 0 ≡ getD s b 0 = λ a b e. ap (λ m. getD s m 0) e in
+    let g = rest-at 5 n s i 1 0 h (omega arith) in
+    let z = rest-at 5 n s i 1 1 h (omega arith) ∙ one (5 * i + 2) (5 * i + 1 + 1) (omega arith) in
+    let y = rest-at 5 n s i 1 2 h (omega arith) ∙ one (5 * i + 3) (5 * i + 1 + 2) (omega arith) in
+    let x = rest-at 5 n s i 1 3 h (omega arith) ∙ one (5 * i + 4) (5 * i + 1 + 3) (omega arith) in
+    λ t. record { grid = g t; z = z t; y = y t; x = x t })
 
 -- The cells of a net list.
 pub net-lines : (n : ℕ) (s : List ℕ) → Lines (netIn n s) n (λ i. cellAt s (4 * i))

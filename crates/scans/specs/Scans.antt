@@ -2,7 +2,7 @@
 use Prim.Native.Nat.{ℕ, suc, _+_, _≤_, _<_}
 use native.Mathlib.Numerals.{add-one}
 use native.Mathlib.Omega.{arith}
-use mathlib.Core.Path.{_≡_, refl, sym, ap, _∙_}
+use mathlib.Core.Path.{_≡_, sym, ap, _∙_}
 use mathlib.Core.Bool.{Bool, true, false, _&&_}
 use mathlib.Core.List.{List, [], _∷_}
 use lib.ListN.{length, drop, getD, drop-of-length-le}
@@ -34,7 +34,8 @@ pub lines-each : {A B : Type 0} (f : A → B) {l : List A} {n : ℕ} {at : ℕ �
 lines-each f {l} {n} {at} r =
     record {
       len = each-length f l ∙ r .len;
-      is = λ i h. sym (each-drop f i l) ∙ ap (each f) (r .is i h) ∙ ap (λ k. f (at i) ∷ k) (each-drop f (suc i) l) }
+      is = λ i h. sym (each-drop f i l) ∙ ap (each f) (r .is i h) ∙ ap (λ k. f (at i) ∷ k) (each-drop f (suc i) l);
+    }
 
 module _ {A : Type 0} {l : List A} {n : ℕ} {at : ℕ → A} (r : Lines l n at) where
   lines-end : (i : ℕ) → n ≤ i → drop i l ≡ []

@@ -1,6 +1,7 @@
 // Whether a cell is among the occupied ones; and the laws of tests that go along the rows of a table.
 use component::Cell;
-use table::{find4, Place};
+use table::Place;
+use table::find4;
 ghost use mathlib.Core.Path.{_≡_};
 ghost use mathlib.Core.Bool.{true};
 ghost use Rattle.model.specs.Lists.{has, keys};

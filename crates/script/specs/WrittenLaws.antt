@@ -1,15 +1,13 @@
 -- A record that is written is read back.
-use Prim.Native.Nat.{ℕ, zero, suc, _+_, _*_, _/_, _%_, _^_, _≤_, _<_}
-use mathlib.Core.Path.{_≡_, refl, sym, ap, _∙_}
+use Prim.Native.Nat.{ℕ, zero, suc, _+_, _/_, _^_, _≤_, _<_}
+use mathlib.Core.Path.{_≡_, refl, ap, _∙_}
 use mathlib.Core.Bool.{Bool}
-use mathlib.Core.List.{List, [], _∷_, _++_}
+use mathlib.Core.List.{List, _++_}
 use native.Mathlib.Nat.{pow-suc}
 use native.Mathlib.Omega.{arith}
 use borrow.Author.Tests.{eq-eqb, ne-eqb, le-leb}
 use lib.ListN.{length, getD}
-use Rattle.script.specs.declared.kinds.Moved.{Moved}
-use Rattle.script.specs.declared.kinds.Step.{Step}
-use Rattle.script.specs.declared.kinds.Step.the-variants.{Remove, Move, Run}
+use Rattle.script.specs.declared.kinds.Step.the-variants.{Remove, Move}
 use Rattle.script.specs.Records.{little, widened, lengthOf, movedOf, recordOf, stepOf, stepLen}
 use Rattle.script.specs.Written.{Record, remove, move, run, bytes, written, said, Fits}
 

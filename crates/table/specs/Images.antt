@@ -15,11 +15,13 @@ use Rattle.table.specs.Rows.{Kind, areZero, entryOf, rowOf, tableOf, ima
 use Rattle.table.specs.Kinds.{Lawful}
 use Rattle.table.specs.Words.{words-all}
 
-zeros-are : (l : List ℕ) → T (areZero l) → l ≡ replicate (length l) 0
+-- Words that are all zero are so many zeros.
+pub zeros-are : (l : List ℕ) → T (areZero l) → l ≡ replicate (length l) 0
 zeros-are [] t = refl
 zeros-are (x ∷ l) t = λ i. sym (eqb→eq 0 x (and-fst (eqb 0 x) (areZero l) t)) i ∷ zeros-are l (and-snd (eqb 0 x) (areZero l) t) i
 
-are-zeros : (m : ℕ) → areZero (replicate m 0) ≡ true
+-- So many zeros are all zero.
+pub are-zeros : (m : ℕ) → areZero (replicate m 0) ≡ true
 are-zeros zero = refl
 are-zeros (suc m) = are-zeros m
 

@@ -6,9 +6,9 @@ use mathlib.Core.Bool.{Bool, true, false, cond, not, _&&_, _||_}
 use mathlib.Core.List.{List, _++_}
 use lib.Dec.{eqb, ltb}
 use lib.ListN.{length, take, drop}
-use borrow.Author.Tests.{ltb-false, ne-eqb, eq-eqb}
+use borrow.Author.Tests.{ltb-false, ne-eqb}
 use Rattle.model.specs.Lists.{all}
-use Rattle.model.specs.Cells.{Cell, touch26}
+use Rattle.model.specs.Cells.{touch26}
 use Rattle.model.specs.Occupancy.{Batch, occupied, startBatch, events, playBatch}
 use Rattle.model.specs.Update.{State, tooManyEvents, outOfRange, fewIds, brokenBy, refusal, accepted, update}
 use Rattle.layout.specs.State.{stateLen, encode, decode, nextId}
@@ -58,7 +58,7 @@ module _ (s : State) (b : Batch) where
     refused k e f =
         let n : eqb k 0 ≡ false = ne-eqb k 0 f in
         let u : _≡_ {A = ℕ × State} (k, s) (cond (eqb (refusal touch26 s b) 0) (0, accepted touch26 s b) (refusal touch26 s b, s)) =
-            (λ i. cond (sym n i) (0, accepted touch26 s b) (k, s)) ∙ ap (λ (m : ℕ). cond (eqb m 0) (0, accepted touch26 s b) (m, s)) e in
+        (λ i. cond (sym n i) (0, accepted touch26 s b) (k, s)) ∙ ap (λ (m : ℕ). cond (eqb m 0) (0, accepted touch26 s b) (m, s)) e in
         (λ i. (k, cond (sym n i) (encode s ++ drop stateLen w) w))
         ∙ ap (λ (p : ℕ × State). (p .0, cond (eqb (p .0) 0) (encode (p .1) ++ drop stateLen w) w)) u
 

@@ -1,6 +1,5 @@
 -- What is known of the words of a consistent state.
 use Prim.Native.Nat.{ℕ, _≤_}
-use mathlib.Core.Path.{_≡_}
 use mathlib.Core.List.{List}
 use lib.ListN.{length}
 use Rattle.model.specs.Cells.{touch26}

@@ -1,23 +1,22 @@
 -- The words of a consistent state: what stands where, and how long each part is.
 use Prim.Native.Nat.{ℕ, _+_, _≤_}
 use native.Mathlib.Omega.{arith}
-use mathlib.Core.Path.{_≡_, refl, sym, ap, _∙_, subst}
+use mathlib.Core.Path.{_≡_, sym, ap, _∙_, subst}
 use mathlib.Core.Bool.{true}
 use mathlib.Core.List.{List, _++_, List·Memᴰ as Mem}
 use lib.Dec.{T}
-use lib.ListN.{length, take, drop, take-append-drop}
+use lib.ListN.{length, drop, take-append-drop}
 use borrow.Author.Tests.{leb-true}
-use Rattle.model.specs.Lists.{values, ascending}
-use Rattle.model.specs.Cells.{Cell, below, cellInRange, touch26}
+use Rattle.model.specs.Lists.{values}
+use Rattle.model.specs.Cells.{Cell, cellInRange, touch26}
 use Rattle.model.specs.Occupancy.{occupied}
 use Rattle.model.specs.Update.{State}
-use Rattle.model.specs.Consistent.{consistent}
 use Rattle.model.specs.Laws.Orders.{cells}
 use Rattle.model.specs.Laws.Sorted.{ascending-out}
 use Rattle.model.specs.Laws.Touching.{touching-26}
 use Rattle.model.specs.Laws.Consistency.{Ok, ok-in, ok-out}
 use Rattle.layout.specs.Rows.{entitiesImage, cellsImage, netImage, idsImage, groupsImage}
-use Rattle.layout.specs.State.{entitiesLen, cellsLen, netLen, idsLen, groupsLen, entitiesFrom, cellsFrom, occupiedFrom, emptiedFrom, idsFrom, groupsFrom, stateLen, encode, decode}
+use Rattle.layout.specs.State.{entitiesLen, cellsLen, netLen, idsLen, groupsLen, cellsFrom, occupiedFrom, emptiedFrom, idsFrom, groupsFrom, stateLen, decode}
 use Rattle.layout.specs.Points.{longEnough, consistentWords}
 use Rattle.layout.specs.Facts.{Fits, Stands}
 use Rattle.layout.specs.ImageLaws.{entities-laws, cells-laws, net-laws, ids-laws, groups-laws}
@@ -36,20 +35,26 @@ known w e l =
       long = leb-true stateLen (length w) l;
       stands = subst (Stands (decode w)) (ap (λ (v : List ℕ). v ++ drop stateLen w) (sym (c .1)) ∙ take-append-drop stateLen w) (image-stands (decode w) f (drop stateLen w));
       fits = f;
-      ok = ok-out touch26 (touching-26 .flip) (decode w) (c .0) }
+      ok = ok-out touch26 (touching-26 .flip) (decode w) (c .0);
+    }
 
 -- Where the tables end.
 module _ (w : List ℕ) (k : Known w) where
   pub groups-within : groupsFrom ≤ length w
   groups-within = omega (arith, k .long, groups-end)
+
   pub ids-within : idsFrom ≤ length w
   ids-within = omega (arith, groups-within, ids-end)
+
   pub emptied-within : emptiedFrom ≤ length w
   emptied-within = omega (arith, ids-within, emptied-end)
+
   pub occupied-within : occupiedFrom ≤ length w
   occupied-within = omega (arith, emptied-within, occupied-end)
+
   pub cells-within : cellsFrom ≤ length w
   cells-within = omega (arith, occupied-within, cells-end)
+
   pub header-within : 8 ≤ length w
   header-within = omega (arith, cells-within, entities-end, header-end)
 

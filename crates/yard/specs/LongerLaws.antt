@@ -1,13 +1,11 @@
 -- The image of a table in a longer slice is the image with more zeros.
 use Prim.Native.Nat.{ℕ, zero, suc, _+_, _-_, _≤_}
 use native.Mathlib.Omega.{arith}
-use mathlib.Core.Path.{_≡_, refl, sym, ap, _∙_}
+use mathlib.Core.Path.{_≡_, sym, ap, _∙_}
 use mathlib.Core.List.{List, _++_, append-assoc}
-use lib.ListN.{length, take, drop, replicate, length-append, length-drop, length-replicate, replicate-append-replicate, drop-of-length-le}
+use lib.ListN.{length, take, drop, replicate, length-append, length-drop, length-replicate, replicate-append-replicate}
 use lib.Seq.{slice, take-at, drop-at, take-add, length-take-le}
 use Rattle.model.specs.Lists.{gather, each}
-use Rattle.model.specs.Cells.{Cell}
-use Rattle.model.specs.Groups.{Group}
 use Rattle.table.specs.Rows.{Kind, number, cell, rowOf, imageOf}
 use Rattle.table.specs.Moves.{over}
 use Rattle.layout.specs.Rows.{entityRow, cellRow, netRow, idRow, groupRow, entitiesImage, cellsImage, netImage, idsImage, groupsImage}

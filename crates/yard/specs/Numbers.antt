@@ -1,5 +1,4 @@
 -- The places and lengths of the tables, as numbers.
-use Prim.Native.Nat.{ℕ}
 use mathlib.Core.Path.{_≡_, refl}
 use Rattle.layout.specs.State.{entitiesLen, cellsLen, netLen, idsLen, groupsLen, entitiesFrom, cellsFrom, occupiedFrom, emptiedFrom, idsFrom, groupsFrom, stateLen}
 

@@ -1,15 +1,15 @@
 -- The events of a batch, one after the other.
-use Prim.Native.Nat.{ℕ, suc, _+_, _*_, _≤_, _<_}
+use Prim.Native.Nat.{ℕ, _+_, _*_, _≤_, _<_}
 use native.Mathlib.Numerals.{add-one}
 use native.Mathlib.Omega.{arith}
 use mathlib.Core.Path.{_≡_, refl, sym, ap, _∙_, subst}
 use mathlib.Core.Bool.{Bool, true, false, cond, not}
 use mathlib.Core.List.{List, [], _∷_, _++_}
-use lib.Dec.{T, ltb, eqb, nltb→le}
+use lib.Dec.{ltb, eqb}
 use lib.ListN.{length, take, drop, getD}
 use lib.Seq.{length-take-le, drop-cons, drop-length, getD-take}
 use borrow.Author.Tests.{ltb-false, eqb-true}
-use Rattle.model.specs.Lists.{run, has, each, all, keys}
+use Rattle.model.specs.Lists.{run, has, each, all}
 use Rattle.component.specs.Tests.{both}
 use Rattle.model.specs.Cells.{Cell, same, below, cellInRange, touch26}
 use Rattle.model.specs.Occupancy.{Occupancy, Event, remove, moveTo, occupied, play, events}
@@ -20,7 +20,6 @@ use Rattle.model.specs.Laws.Tables.{keys-length}
 use Rattle.model.specs.Laws.Touching.{touching-26}
 use Rattle.model.specs.Laws.Occupied.{Sound, pass-sound, events-keep}
 use Rattle.model.specs.Laws.Net.{Net, pass-net}
-use Rattle.model.specs.Laws.Accepted.{Within}
 use Rattle.batch.specs.Words.{moveAt, movesIn, batchOf}
 use Rattle.batch.specs.WordLaws.{movesLeft, moves-start, moves-step, moves-end}
 use Rattle.map.specs.declared.Counts.{Counts}
@@ -59,7 +58,9 @@ module _ {ents cells crowd occ emp : List ℕ} {n : Counts} {was : List Cell} {o
         crowd-room = omega (arith, r .room .crowd-room, c);
         opening = record {
           cells-room = omega (arith, r .room .cells-room, c);
-          occupied-room = omega (arith, r .room .occ-room, r .held .stored .occupied-count, opened-few) } }
+          occupied-room = omega (arith, r .room .occ-room, r .held .stored .occupied-count, opened-few);
+        };
+      }
 
   -- All events are left.
   pub going-start : (es left : List Event) → es ≡ left → Going ents cells crowd occ emp n was o es left
@@ -78,7 +79,8 @@ roomy-kept ents cells crowd occ emp ents′ cells′ crowd′ occ′ emp′ a b 
       cells-room = omega (arith, r .cells-room, b);
       crowd-room = omega (arith, r .crowd-room, c);
       occ-room = omega (arith, r .occ-room, d);
-      emp-room = omega (arith, r .emp-room, e) }
+      emp-room = omega (arith, r .emp-room, e);
+    }
 
 -- A judgement of two tests, and the numbers that follow.
 pass-both : (a b : Bool) (m : ℕ) → cond {A = ℕ} a 6 (cond b 7 0) ≡ 0 → (a ≡ false) × (b ≡ false) × (cond a 6 (cond b 7 m) ≡ m)
@@ -117,13 +119,16 @@ module _ {ents cells crowd occ emp : List ℕ} {n : Counts} {was : List Cell} {o
           held = h;
           within = record {
             entities = ltb-false mostEntities (length (after .entities)) (p .0);
-            cells = ltb-false mostCells (length (occupied after)) (p .1) };
+            cells = ltb-false mostCells (length (occupied after)) (p .1);
+          };
           was-asc = g .ready .was-asc;
           was-few = g .ready .was-few;
           net = play-net was (g .ready .was-asc) (g .at) (g .ready .held .placed .sound) (g .ready .net) ev;
-          room = roomy-kept ents cells crowd occ emp ents′ cells′ crowd′ occ′ emp′ a b c d e (g .ready .room) };
+          room = roomy-kept ents cells crowd occ emp ents′ cells′ crowd′ occ′ emp′ a b c d e (g .ready .room);
+        };
         broken = g .broken ∙ p .2;
-        ends = g .ends }
+        ends = g .ends;
+      }
 
 -- No event is left.
 pub going-end : {ents cells crowd occ emp : List ℕ} {n : Counts} {was : List Cell} {o : Occupancy} {es : List Event} (left : List Event) → left ≡ [] → Going ents cells crowd occ emp n was o es left
@@ -132,7 +137,8 @@ going-end {ents} {cells} {crowd} {occ} {emp} {n} {was} {o} {es} left e g r z q =
     record {
       number = z ∙ sym (g .broken ∙ ap (brokenBy touch26 (g .at)) e);
       ready = λ k. subst (λ (m : Counts). Ready ents cells crowd occ emp m was (run (play touch26) o es)) (sym q)
-        (subst (λ (u : Occupancy). Ready ents cells crowd occ emp n was u) (sym (g .ends ∙ ap (run (play touch26) (g .at)) e)) (g .ready)) }
+          (subst (λ (u : Occupancy). Ready ents cells crowd occ emp n was u) (sym (g .ends ∙ ap (run (play touch26) (g .at)) e)) (g .ready));
+    }
 
 -- The number of events one after the other.
 broken-append : (es fs : List Event) (o : Occupancy) → brokenBy touch26 o (es ++ fs) ≡ cond (eqb (brokenBy touch26 o es) 0) (brokenBy touch26 (run (play touch26) o es) fs) (brokenBy touch26 o es)
@@ -141,6 +147,7 @@ broken-append (e ∷ es) fs o = go (tooManyEntities (play touch26 o e)) (tooMany
   where
     last : ℕ
     last = brokenBy touch26 (run (play touch26) (play touch26 o e) es) fs
+
     go : (a b : Bool) → brokenBy touch26 (play touch26 o e) (es ++ fs) ≡ cond (eqb (brokenBy touch26 (play touch26 o e) es) 0) last (brokenBy touch26 (play touch26 o e) es)
         → cond a 6 (cond b 7 (brokenBy touch26 (play touch26 o e) (es ++ fs)))
         ≡ cond (eqb (cond a 6 (cond b 7 (brokenBy touch26 (play touch26 o e) es))) 0) last (cond a 6 (cond b 7 (brokenBy touch26 (play touch26 o e) es)))
@@ -161,14 +168,16 @@ module _ {ents cells crowd occ emp : List ℕ} (r : Played) {was : List Cell} {o
   outcome-stop f =
       record {
         number = x .number ∙ sym (broken-append es fs o ∙ pick (brokenBy touch26 o es) (brokenBy touch26 (run (play touch26) o es) fs) (λ e. f (x .number ∙ e)));
-        ready = λ e. absurd (f e) }
+        ready = λ e. absurd (f e);
+      }
 
   -- The first events break no limit, and the others decide.
   pub outcome-then : r .number ≡ 0 → {ents′ cells′ crowd′ occ′ emp′ : List ℕ} (q : Played) → Outcome ents′ cells′ crowd′ occ′ emp′ q was (run (play touch26) o es) fs → Outcome ents′ cells′ crowd′ occ′ emp′ q was o (es ++ fs)
   outcome-then z {ents′} {cells′} {crowd′} {occ′} {emp′} q y =
       record {
         number = y .number ∙ sym (broken-append es fs o ∙ ap (λ (k : ℕ). cond (eqb k 0) (brokenBy touch26 (run (play touch26) o es) fs) k) (sym (x .number) ∙ z));
-        ready = λ e. subst (λ (u : Occupancy). Ready ents′ cells′ crowd′ occ′ emp′ (q .counts) was u) (sym (run-append (play touch26) o es fs)) (y .ready e) }
+        ready = λ e. subst (λ (u : Occupancy). Ready ents′ cells′ crowd′ occ′ emp′ (q .counts) was u) (sym (run-append (play touch26) o es fs)) (y .ready e);
+      }
 
 -- The removals from the i-th on.
 abbrev pub removalsLeft : List ℕ → ℕ → ℕ → List Event

@@ -1,16 +1,14 @@
 -- From the words of a consistent state to its tables.
-use Prim.Native.Nat.{ℕ, suc, _+_, _*_, _≤_, _<_}
+use Prim.Native.Nat.{ℕ, _+_, _*_, _≤_, _<_}
 use native.Mathlib.Omega.{arith}
-use mathlib.Core.Path.{_≡_, refl, sym, ap, _∙_, subst}
-use mathlib.Core.List.{List, [], _++_, List·Memᴰ as Mem, List·Memᴰ·not-nil as mem-nil}
-use lib.Dec.{T}
-use lib.ListN.{length, take, drop, replicate, getD, length-replicate}
+use mathlib.Core.Path.{_≡_, sym, ap, _∙_, subst}
+use mathlib.Core.List.{List, List·Memᴰ as Mem, List·Memᴰ·not-nil as mem-nil}
+use lib.ListN.{length, replicate, length-replicate}
 use lib.Seq.{slice}
-use Rattle.model.specs.Lists.{keys}
-use Rattle.model.specs.Cells.{Cell, same, below, cellInRange, touch26}
+use Rattle.model.specs.Cells.{Cell, below, touch26}
 use Rattle.model.specs.Occupancy.{Occupancy, Batch, occupied, startBatch, playBatch}
-use Rattle.model.specs.Groups.{Ids, Groups, regroup, records}
-use Rattle.model.specs.Update.{State, mostEntities, mostCells, lastNext, accepted, update}
+use Rattle.model.specs.Groups.{regroup}
+use Rattle.model.specs.Update.{State, mostCells, accepted}
 use Rattle.model.specs.Laws.Orders.{cells}
 use Rattle.model.specs.Laws.Minus.{minus-self}
 use Rattle.model.specs.Laws.Sorted.{Asc, nil}
@@ -22,16 +20,15 @@ use Rattle.model.specs.Laws.Consistency.{Ok, ok-in}
 use Rattle.model.specs.Theorems.StaysConsistent.{accepted-ok}
 use Rattle.model.specs.Theorems.UpdateIds.{next-fits}
 use Rattle.table.specs.Moves.{over}
-use Rattle.layout.specs.Rows.{entitiesImage, cellsImage, netImage, idsImage, entitiesIn}
-use Rattle.layout.specs.State.{entitiesLen, cellsLen, netLen, idsLen, groupsLen, entitiesFrom, cellsFrom, occupiedFrom, idsFrom, groupsFrom, decode, entityCount, cellCount, idCount, nextId}
-use Rattle.layout.specs.Facts.{Fits}
+use Rattle.layout.specs.Rows.{entitiesImage, cellsImage, idsImage, entitiesIn}
+use Rattle.layout.specs.State.{entitiesLen, cellsLen, idsLen, entitiesFrom, cellsFrom, occupiedFrom, idsFrom, groupsFrom, decode, cellCount, idCount, nextId}
 use Rattle.layout.specs.ImageLaws.{net-laws}
 use Rattle.layout.specs.Lengths.{ids-room}
 use Rattle.map.specs.declared.Counts.{Counts}
-use Rattle.map.specs.Held.{Placed, Held, tally, crowdOf}
+use Rattle.map.specs.Held.{tally, crowdOf}
 use Rattle.map.specs.CrowdLaws.{crowd-keys}
 use Rattle.map.specs.TallyLaws.{crowd-of-words}
-use Rattle.partition.specs.Held.{HeldRows, HeldIds, HeldCells, HeldGroups}
+use Rattle.partition.specs.Held.{HeldIds, HeldCells}
 use Rattle.yard.specs.Known.{Known}
 use Rattle.yard.specs.KnownLaws.{entities-long, cells-long, ids-long, occupied-ranged}
 use Rattle.yard.specs.Playing.{Roomy, Ready}
@@ -92,7 +89,8 @@ module _ (w : List ℕ) (k : Known w) where
           entities-count = x ∙ c;
           cells-count = y ∙ k .stands .cell-count;
           occupied-none = z;
-          emptied-none = u }
+          emptied-none = u;
+        }
 
   -- A map that is copied out, with empty net lists, is ready for the events of a batch.
   pub opened-ready : (ents cels crowd occ emp : List ℕ) (n : Counts) → Opened w ents cels crowd n → Blank occ → Blank emp → Roomy ents cels crowd occ emp → Ready ents cels crowd occ emp n (occupied o) (startBatch o)
@@ -115,19 +113,23 @@ module _ (w : List ℕ) (k : Known w) where
             emptied-count = x .emptied-none;
             cells-fit = omega (arith, x .cells-count, few, r .cells-room);
             occupied-fit = omega (arith, x .occupied-none);
-            emptied-fit = omega (arith, x .emptied-none) };
+            emptied-fit = omega (arith, x .emptied-none);
+          };
           placed = record {
             sound = start-sound touch26 o (k .ok .sound);
             inside = record { stood = λ {c = a} m. k .ok .range-entities a m; opened = λ m. absurd (mem-nil m); emptied = λ m. absurd (mem-nil m) };
             opened-asc = nil;
             emptied-asc = nil;
             opened-in = λ a m. absurd (mem-nil m);
-            emptied-out = λ a m. absurd (mem-nil m) } };
+            emptied-out = λ a m. absurd (mem-nil m);
+          };
+        };
         within = record { entities = k .ok .few-entities; cells = k .ok .few-cells };
         was-asc = occupied-asc touch26 o (k .ok .sound);
         was-few = k .ok .few-cells;
         net = record { opened = sym (minus-self cells (occupied o)); emptied = sym (minus-self cells (occupied o)) };
-        room = r }
+        room = r;
+      }
 
   -- The cells with an id, as the rules take them.
   pub ids-held : (n : ℕ) (next : ℕ) (ids : List ℕ) → n ≡ idCount w → next ≡ nextId w → idsLen ≤ length ids → ids ≡ idsImage (length ids) (decode w .groups .ids) → HeldIds ids n next (decode w .groups)
@@ -138,8 +140,10 @@ module _ (w : List ℕ) (k : Known w) where
           count = c ∙ k .stands .id-count;
           asc = subst (Asc below) (sym (k .ok .id-cells)) (occupied-asc touch26 o (k .ok .sound));
           ranged = λ a m. occupied-ranged w k a (subst (λ l. Mem a l) (k .ok .id-cells) m);
-          fits = omega (arith, c, k .stands .id-count, ids-room (length (decode w .groups .ids)) (k .fits .ids), h) };
-        is-next = x ∙ k .stands .next-id }
+          fits = omega (arith, c, k .stands .id-count, ids-room (length (decode w .groups .ids)) (k .fits .ids), h);
+        };
+        is-next = x ∙ k .stands .next-id;
+      }
 
 -- A batch that is accepted, its events played.
 module _ {w ents cels occ emp : List ℕ} {n : Counts} {b : Batch} (f : Finishes w ents cels occ emp n b) where
@@ -164,7 +168,8 @@ module _ {w ents cels occ emp : List ℕ} {n : Counts} {b : Batch} (f : Finishes
         count = f .ready .held .stored .occupied-count;
         asc = f .ready .held .placed .opened-asc;
         ranged = λ c m. f .ready .held .placed .inside .opened m;
-        fits = f .ready .held .stored .occupied-fit }
+        fits = f .ready .held .stored .occupied-fit;
+      }
 
   -- The newly emptied cells, as the rules take them.
   emptied-held : HeldCells emp (n .emptied) (p .newlyEmptied)
@@ -174,7 +179,8 @@ module _ {w ents cels occ emp : List ℕ} {n : Counts} {b : Batch} (f : Finishes
         count = f .ready .held .stored .emptied-count;
         asc = f .ready .held .placed .emptied-asc;
         ranged = λ c m. f .ready .held .placed .inside .emptied m;
-        fits = f .ready .held .stored .emptied-fit }
+        fits = f .ready .held .stored .emptied-fit;
+      }
 
   -- There are few cells with an id afterwards.
   few-after : length (regroup touch26 (p .newlyOccupied) (p .newlyEmptied) (s .groups) .ids) ≤ 1024
@@ -209,7 +215,8 @@ module _ {w ents cels occ emp : List ℕ} {n : Counts} {b : Batch} (f : Finishes
         emptied = emptied-held;
         few = few-after;
         next-room = omega (arith, opened-few, yes .ids-left);
-        next-fits = next-after }
+        next-fits = next-after;
+      }
 
 -- The cells with an id, copied out, as the rules take them.
 pub regroup-ready : (w ids groups occ : List ℕ) (p : ℕ) (emp : List ℕ) (m : ℕ) (o e : List Cell) → Regroups w ids groups occ p emp m o e → (from to : ℕ) → from ≡ idsFrom → to ≡ groupsFrom

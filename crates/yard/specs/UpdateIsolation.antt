@@ -1,6 +1,6 @@
 -- Demand 3 over words: runs of calls that are alike on a grid show the same of it.
 use Prim.Native.Nat.{ℕ}
-use mathlib.Core.Path.{_≡_, sym, subst, _∙_}
+use mathlib.Core.Path.{_≡_, sym, subst}
 use mathlib.Core.List.{List}
 use Rattle.model.specs.Cells.{touch26}
 use Rattle.model.specs.Update.{State, fresh, update}

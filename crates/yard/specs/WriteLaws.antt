@@ -1,7 +1,6 @@
 -- The words of a state, written part by part.
-use Prim.Native.Nat.{ℕ, suc, _+_, _*_, _≤_}
-use native.Mathlib.Omega.{arith}
-use mathlib.Core.Path.{_≡_, refl, sym, ap, _∙_, subst}
+use Prim.Native.Nat.{ℕ, _+_, _≤_}
+use mathlib.Core.Path.{_≡_, sym, ap, _∙_}
 use mathlib.Core.List.{List, [], _∷_, _++_, append-assoc}
 use lib.ListN.{length, take, drop, length-append}
 use lib.Seq.{length-take-le, take-at, drop-drop, drop-append-add}
@@ -40,8 +39,9 @@ begun-next {w} {u} {p} {at} g src len next h e a l x y v q =
     let k : length (take len src) ≡ len = length-take-le len src h in
     record {
       is = q ∙ (λ i. over (g .is i) (x i) (take (y i) src)) ∙ over-next p (drop at w) (take len src) at (g .long)
-        ∙ ap (λ (d : List ℕ). (p ++ take len src) ++ d) (ap (λ (n : ℕ). drop n (drop at w)) k ∙ drop-drop len at w ∙ ap (λ (n : ℕ). drop n w) e);
-      long = length-append p (take len src) ∙ (λ i. g .long i + k i) ∙ e }
+          ∙ ap (λ (d : List ℕ). (p ++ take len src) ++ d) (ap (λ (n : ℕ). drop n (drop at w)) k ∙ drop-drop len at w ∙ ap (λ (n : ℕ). drop n w) e);
+      long = length-append p (take len src) ∙ (λ i. g .long i + k i) ∙ e;
+    }
 
 -- The header, the map and both net lists are written.
 pub front-written : (w head ents cells occ emp : List ℕ) → length head ≡ 8 → entitiesLen ≤ length ents → cellsLen ≤ length cells → netLen ≤ length occ → netLen ≤ length emp

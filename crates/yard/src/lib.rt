@@ -1,7 +1,32 @@
-// The update of a state in lent memory.
-use batch::{early_number, move_cell, too_short};
-use consistent::consistent;
-use map::{crowd_of, play_move, play_removal, Counts};
+// The yard's calls on a state in lent memory: a fresh state, the test of consistency, the update, and the questions.
+pub use ask::Depth;
+pub use ask::Flooding;
+pub use ask::GroupOf;
+pub use ask::IdOf;
+pub use ask::Listing;
+pub use ask::Shown;
+pub use ask::Visited;
+pub use ask::Where;
+pub use ask::corners;
+pub use ask::cube;
+pub use ask::entities_in;
+pub use ask::flood;
+pub use ask::group;
+pub use ask::id_of;
+pub use ask::ids;
+pub use ask::nearby;
+pub use ask::newly_emptied;
+pub use ask::newly_occupied;
+pub use ask::where_is;
+use batch::early_number;
+use batch::move_cell;
+use batch::too_short;
+pub use consistent::consistent;
+pub use fresh::fresh;
+use map::Counts;
+use map::crowd_of;
+use map::play_move;
+use map::play_removal;
 use partition::build_records;
 use split::regroup;
 use table::write_row;
@@ -26,10 +51,15 @@ ghost use Rattle.yard.specs.Update.{done, updateOf};
 
 // Where each table begins in a state.
 const ENTITIES: usize = 8;
+
 const CELLS: usize = 20488;
+
 const OCCUPIED: usize = 51208;
+
 const EMPTIED: usize = 55304;
+
 const IDS: usize = 59400;
+
 const GROUPS: usize = 64520;
 
 // The counts after some events, and the number of the first that breaks a limit, 0 where none does.
@@ -68,7 +98,16 @@ fn judge(n: Counts) -> u64
 }
 
 // The removals of a batch, up to the first that breaks a limit.
-fn play_removals(ents: &mut [u64], cells: &mut [u64], crowd: &mut [u64], occ: &mut [u64], emp: &mut [u64], batch: &[u64], n: Counts, removals: usize) -> Played
+fn play_removals(
+    ents: &mut [u64],
+    cells: &mut [u64],
+    crowd: &mut [u64],
+    occ: &mut [u64],
+    emp: &mut [u64],
+    batch: &[u64],
+    n: Counts,
+    removals: usize,
+) -> Played
     requires { ⌜ ((was : List Cell) × (o : Occupancy) × Ready (now ents) (now cells) (now crowd) (now occ) (now emp) n was o × (removals ≤ length (now batch))) ⌝ }
     ensures { λ r. ⌜ ((was : List Cell) (o : Occupancy) → Ready (now (ents .entry)) (now (cells .entry)) (now (crowd .entry)) (now (occ .entry)) (now (emp .entry)) n was o → Outcome (now (ents .exit)) (now (cells .exit)) (now (crowd .exit)) (now (occ .exit)) (now (emp .exit)) r was o (each remove (take removals (now (batch .entry))))) ⌝ }
 {
@@ -92,7 +131,17 @@ fn play_removals(ents: &mut [u64], cells: &mut [u64], crowd: &mut [u64], occ: &m
 }
 
 // The moves of a batch, which stand from a place on, up to the first that breaks a limit.
-fn play_moves(ents: &mut [u64], cells: &mut [u64], crowd: &mut [u64], occ: &mut [u64], emp: &mut [u64], batch: &[u64], n: Counts, from: usize, moves: usize) -> Played
+fn play_moves(
+    ents: &mut [u64],
+    cells: &mut [u64],
+    crowd: &mut [u64],
+    occ: &mut [u64],
+    emp: &mut [u64],
+    batch: &[u64],
+    n: Counts,
+    from: usize,
+    moves: usize,
+) -> Played
     requires { ⌜ ((was : List Cell) × (o : Occupancy) × Ready (now ents) (now cells) (now crowd) (now occ) (now emp) n was o × (from + 5 * moves ≤ length (now batch)) × (all inRange (movesIn moves (drop from (now batch))) ≡ true)) ⌝ }
     ensures { λ r. ⌜ ((was : List Cell) (o : Occupancy) → Ready (now (ents .entry)) (now (cells .entry)) (now (crowd .entry)) (now (occ .entry)) (now (emp .entry)) n was o → Outcome (now (ents .exit)) (now (cells .exit)) (now (crowd .exit)) (now (occ .exit)) (now (emp .exit)) r was o (each toMove (movesIn moves (drop from (now (batch .entry)))))) ⌝ }
 {
@@ -118,7 +167,17 @@ fn play_moves(ents: &mut [u64], cells: &mut [u64], crowd: &mut [u64], occ: &mut 
 }
 
 // The events of a batch, up to the first that breaks a limit.
-fn play_batch(ents: &mut [u64], cells: &mut [u64], crowd: &mut [u64], occ: &mut [u64], emp: &mut [u64], batch: &[u64], n: Counts, removals: usize, moves: usize) -> Played
+fn play_batch(
+    ents: &mut [u64],
+    cells: &mut [u64],
+    crowd: &mut [u64],
+    occ: &mut [u64],
+    emp: &mut [u64],
+    batch: &[u64],
+    n: Counts,
+    removals: usize,
+    moves: usize,
+) -> Played
     requires { ⌜ ((was : List Cell) × (o : Occupancy) × Ready (now ents) (now cells) (now crowd) (now occ) (now emp) n was o × (removals + 5 * moves ≤ length (now batch)) × (all inRange (movesIn moves (drop removals (now batch))) ≡ true)) ⌝ }
     ensures { λ r. ⌜ ((was : List Cell) (o : Occupancy) → Ready (now (ents .entry)) (now (cells .entry)) (now (crowd .entry)) (now (occ .entry)) (now (emp .entry)) n was o → Outcome (now (ents .exit)) (now (cells .exit)) (now (crowd .exit)) (now (occ .exit)) (now (emp .exit)) r was o (events (batchOf (now (batch .entry)) removals moves))) ⌝ }
 {
@@ -179,7 +238,15 @@ fn open_map(state: &[u64], ents: &mut [u64], cells: &mut [u64], crowd: &mut [u64
 }
 
 // The cells with an id are copied out and regrouped, and the group records are built.
-fn regroup_state(state: &[u64], ids: &mut [u64], groups: &mut [u64], occ: &[u64], p: usize, emp: &[u64], m: usize) -> Made
+fn regroup_state(
+    state: &[u64],
+    ids: &mut [u64],
+    groups: &mut [u64],
+    occ: &[u64],
+    p: usize,
+    emp: &[u64],
+    m: usize,
+) -> Made
     requires { ⌜ ((o : List Cell) × (e : List Cell) × Regroups (now state) (now ids) (now groups) (now occ) p (now emp) m o e) ⌝ }
     ensures { λ r. ⌜ ((o e : List Cell) → Regroups (now (state .entry)) (now (ids .entry)) (now (groups .entry)) (now (occ .entry)) p (now (emp .entry)) m o e → Regrouped (now (ids .exit)) (now (groups .exit)) r (regroup touch26 o e (decode (now (state .entry)) .groups))) ⌝ }
 {
@@ -195,7 +262,14 @@ fn regroup_state(state: &[u64], ids: &mut [u64], groups: &mut [u64], occ: &[u64]
 }
 
 // The header, the map and both net lists are written.
-fn write_front(state: &mut [u64], head: &[u64], ents: &[u64], cells: &[u64], occ: &[u64], emp: &[u64])
+fn write_front(
+    state: &mut [u64],
+    head: &[u64],
+    ents: &[u64],
+    cells: &[u64],
+    occ: &[u64],
+    emp: &[u64],
+)
     requires { ⌜ (stateLen ≤ length (now state)) × (length (now head) ≡ 8) × (entitiesLen ≤ length (now ents)) × (cellsLen ≤ length (now cells)) × (netLen ≤ length (now occ)) × (netLen ≤ length (now emp)) ⌝ }
     ensures { λ _. ⌜ Begun (now (state .entry)) (now (state .exit)) (frontWords (now (head .entry)) (now (ents .entry)) (now (cells .entry)) (now (occ .entry)) (now (emp .entry))) idsFrom ⌝ }
 {
@@ -225,7 +299,16 @@ fn finish(state: &mut [u64], ents: &[u64], cells: &[u64], occ: &[u64], emp: &[u6
     let p = n.occupied;
     let m = n.emptied;
     let g = regroup_state(state, &mut ids, &mut groups, occ, p, emp, m);
-    let head = [word(n.entities), word(n.cells), word(p), word(m), word(g.ids), word(g.groups), g.next, 0];
+    let head = [
+        word(n.entities),
+        word(n.cells),
+        word(p),
+        word(m),
+        word(g.ids),
+        word(g.groups),
+        g.next,
+        0,
+    ];
     write_front(state, &head, ents, cells, occ, emp);
     write_back(state, &ids, &groups);
 }
@@ -241,7 +324,17 @@ fn work(state: &mut [u64], batch: &[u64], removals: usize, moves: usize) -> u64
     let mut occ = [0u64; 4100];
     let mut emp = [0u64; 4100];
     let n = open_map(state, &mut ents, &mut cells, &mut crowd);
-    let p = play_batch(&mut ents, &mut cells, &mut crowd, &mut occ, &mut emp, batch, n, removals, moves);
+    let p = play_batch(
+        &mut ents,
+        &mut cells,
+        &mut crowd,
+        &mut occ,
+        &mut emp,
+        batch,
+        n,
+        removals,
+        moves,
+    );
     let broken = p.number;
     if broken != 0 {
         return broken;

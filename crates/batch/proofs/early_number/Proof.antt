@@ -1,9 +1,7 @@
 -- `early_number` meets its contract.
 use borrow.Author.Tests.{not-true, not-false}
 use native.Mathlib.Omega.{arith}
-use mathlib.Core.Path.{_≡_, sym, _∙_}
-use Prim.Native.Nat.{_+_, _≤_, _*_}
-use lib.ListN.{length}
+use mathlib.Core.Path.{sym, _∙_}
 use Rattle.batch.specs.WordLaws.{early-many, early-out, early-late, early-none}
 use borrow.Author.Needs.{needs}
 use Rattle.batch.proofs.early_number.Statement.{statement}

@@ -56,10 +56,11 @@ loop-less c = search needs
 loop-again : tie.Need-loop-again Inv-loop μ-loop
 loop-again c =
     let a = c .before .before .before .before .before .before .args in
-    let l = c .before .before .before .before .loop in
-    (omega (arith, c .before .before .before .loop-test .taken),
+    let l = c .before .before .before .before .loop in (
+      omega (arith, c .before .before .before .loop-test .taken),
       l .inv .1 ∙ left-passes ranged (a .batch .now) (a .from) (a .moves) (l .i) (c .before .before .before .loop-test .taken)
-      (ap cellInRange (sym (c .before .before .move-cell .ensures)) ∙ sym (c .before .stored-in-range .ensures) ∙ not-false _ (c .if1 .left)))
+          (ap cellInRange (sym (c .before .before .move-cell .ensures)) ∙ sym (c .before .stored-in-range .ensures) ∙ not-false _ (c .if1 .left)),
+    )
 
 returns-2 : tie.Need-returns-2 Inv-loop μ-loop
 returns-2 c =

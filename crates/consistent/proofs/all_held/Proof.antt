@@ -1,15 +1,14 @@
-use lib.ListN.{getD, drop}
+use lib.ListN.{drop}
 use mathlib.Core.List.{List}
-use mathlib.Core.Bool.{Bool, true, false, cond, _&&_, _||_, not}
+use mathlib.Core.Bool.{Bool, cond, not}
 use Rattle.model.specs.Cells.{Cell, same}
 use Rattle.model.specs.Lists.{all, has, keys}
 use Rattle.layout.specs.Rows.{netIn}
-use Rattle.table.specs.Rows.{cellAt, table4}
+use Rattle.table.specs.Rows.{table4}
 use Rattle.scans.specs.Readings.{net-lines}
-use Rattle.scans.specs.Scans.{Lines, all-no, all-next, all-end}
+use Rattle.scans.specs.Scans.{all-no, all-next, all-end}
 use Rattle.consistent.specs.Conjunctions.{as-wanted, not-wanted}
-use Prim.Native.Nat.{ℕ, _+_, _-_, _*_, _≤_, _<_}
-use native.Mathlib.Omega.{arith}
+use Prim.Native.Nat.{ℕ, _-_}
 use mathlib.Core.Path.{_≡_, refl, sym, ap, _∙_}
 use borrow.Author.Needs.{needs}
 use Rattle.consistent.proofs.all_held.Statement.{statement}
@@ -28,48 +27,30 @@ Inv-loop net n cells m wanted i₀ i = all (held cells m wanted) (netIn n net) �
 
 abbrev μ-loop : tie.MeasureT-loop
 μ-loop net n cells m wanted i₀ i = n - i
-
--- src/lib.rt:91:5
 loop-holds : tie.Need-loop-holds Inv-loop μ-loop
 loop-holds c = refl
-
--- src/lib.rt:92:46
 mul-cell-at : tie.Need-mul-cell-at Inv-loop μ-loop
 mul-cell-at c = search needs
-
--- src/lib.rt:92:33
 cell-at-requires : tie.Need-cell-at-requires Inv-loop μ-loop
 cell-at-requires c κs = search needs
-
--- src/lib.rt:92:13
 holds-requires : tie.Need-holds-requires Inv-loop μ-loop
 holds-requires c κs = c .before .before .before .before .before .pre .0
-
--- src/lib.rt:94:13
 returns : tie.Need-returns Inv-loop μ-loop
 returns c =
     let l = c .before .before .before .before in
     let s = c .before .before .before .before .before .before .before in
     sym (l .loop .inv ∙ all-no (net-lines (s .args .n) (s .args .net .now)) (held (s .args .cells .now) (s .args .m) (s .args .wanted)) (l .loop .i) (c .before .before .before .loop-test .taken)
     (ap (λ b. cond (s .args .wanted) b (not b)) (ap (has same (keys (table4 30 (s .args .m) (s .args .cells .now)))) (sym (c .before .before .cell-at .ensures)) ∙ sym (c .before .holds .ensures)) ∙ not-wanted (s .args .wanted) (c .before .holds .result) (c .if1 .taken)))
-
--- src/lib.rt:96:9
 add-i : tie.Need-add-i Inv-loop μ-loop
 add-i c = search needs
-
--- src/lib.rt:91:5
 loop-less : tie.Need-loop-less Inv-loop μ-loop
 loop-less c = search needs
-
--- src/lib.rt:91:5
 loop-again : tie.Need-loop-again Inv-loop μ-loop
 loop-again c =
     let l = c .before .before .before .before in
     let s = c .before .before .before .before .before .before .before in
     l .loop .inv ∙ all-next (net-lines (s .args .n) (s .args .net .now)) (held (s .args .cells .now) (s .args .m) (s .args .wanted)) (l .loop .i) (c .before .before .before .loop-test .taken)
     (ap (λ b. cond (s .args .wanted) b (not b)) (ap (has same (keys (table4 30 (s .args .m) (s .args .cells .now)))) (sym (c .before .before .cell-at .ensures)) ∙ sym (c .before .holds .ensures)) ∙ as-wanted (s .args .wanted) (c .before .holds .result) (c .if1 .left))
-
--- src/lib.rt:86:1
 returns-2 : tie.Need-returns-2 Inv-loop μ-loop
 returns-2 c =
     let l = c .before in

@@ -5,9 +5,9 @@ use mathlib.Core.List.{List}
 use borrow.Author.Tests.{lt-ltb}
 use Rattle.model.specs.Lists.{all}
 use Rattle.scans.specs.Scans.{Lines, lines-of, all-no, all-next, all-end}
-use Prim.Native.Nat.{ℕ, _+_, _-_, _*_, _≤_, _<_}
+use Prim.Native.Nat.{ℕ, _-_, _≤_}
 use native.Mathlib.Omega.{arith}
-use mathlib.Core.Path.{_≡_, refl, sym, ap, _∙_, subst}
+use mathlib.Core.Path.{_≡_, refl, sym, ap, _∙_}
 use borrow.Author.Needs.{needs}
 use Rattle.consistent.proofs.all_marked.Statement.{statement}
 use Rattle.consistent.proofs.all_marked.Tie as tie
@@ -23,43 +23,27 @@ Inv-loop marks n i₀ i = all (ltb 0) (take n marks) ≡ all (ltb 0) (drop i (ta
 
 abbrev μ-loop : tie.MeasureT-loop
 μ-loop marks n i₀ i = n - i
-
--- src/lib.rt:62:5
 loop-holds : tie.Need-loop-holds Inv-loop μ-loop
 loop-holds c = refl
-
--- src/lib.rt:63:12
 mul-if1 : tie.Need-mul-if1 Inv-loop μ-loop
 mul-if1 c = search needs
-
--- src/lib.rt:63:12
 shared-slice-read-if1 : tie.Need-shared-slice-read-if1 Inv-loop μ-loop
 shared-slice-read-if1 c = search needs
-
--- src/lib.rt:64:13
 returns : tie.Need-returns Inv-loop μ-loop
 returns c =
     let s = c .before .before .before .before in
     let l = c .before .before .before in
     sym (l .loop .inv ∙ all-no (lined (s .args .marks .now) (s .args .n) (s .pre)) (ltb 0) (l .loop .i) (c .before .before .loop-test .taken) (ap (ltb 0) (c .if1 .taken)))
-
--- src/lib.rt:66:9
 add-i : tie.Need-add-i Inv-loop μ-loop
 add-i c = search needs
-
--- src/lib.rt:62:5
 loop-less : tie.Need-loop-less Inv-loop μ-loop
 loop-less c = search needs
-
--- src/lib.rt:62:5
 loop-again : tie.Need-loop-again Inv-loop μ-loop
 loop-again c =
     let s = c .before .before .before .before in
     let l = c .before .before .before in
     let h = c .if1 .left in
     l .loop .inv ∙ all-next (lined (s .args .marks .now) (s .args .n) (s .pre)) (ltb 0) (l .loop .i) (c .before .before .loop-test .taken) (lt-ltb 0 (getD (s .args .marks .now) (l .loop .i) 0) (omega arith))
-
--- src/lib.rt:57:1
 returns-2 : tie.Need-returns-2 Inv-loop μ-loop
 returns-2 c =
     let s = c .before .before in

@@ -1,8 +1,7 @@
-use Prim.Native.Nat.{ℕ, _+_, _-_, _*_, _≤_, _<_}
-use native.Mathlib.Omega.{arith}
+use Prim.Native.Nat.{_+_, _-_, _*_}
 use mathlib.Core.Path.{_≡_, refl, sym, ap, _∙_}
 use mathlib.Core.List.{List}
-use lib.ListN.{length, drop}
+use lib.ListN.{drop}
 use borrow.Author.Tests.{not-true, not-false}
 use Rattle.model.specs.Cells.{Cell, cellInRange}
 use Rattle.model.specs.Lists.{all}
@@ -22,48 +21,28 @@ Inv-loop s w at n i₀ i = (l : List Cell) → Lines l n (λ i. cellAt s (w * i 
 
 abbrev μ-loop : tie.MeasureT-loop
 μ-loop s w at n i₀ i = n - i
-
--- src/lib.rt:65:5
 loop-holds : tie.Need-loop-holds Inv-loop μ-loop
 loop-holds c = λ l r. refl
-
--- src/lib.rt:66:51
 mul-cell-at : tie.Need-mul-cell-at Inv-loop μ-loop
 mul-cell-at c = let s = c .before .before .before in let f = row-fits (s .args .w) (s .args .n) (c .before .loop .i) (c .loop-test .taken) in search needs
-
--- src/lib.rt:66:51
 add-cell-at : tie.Need-add-cell-at Inv-loop μ-loop
 add-cell-at c = let s = c .before .before .before in let f = row-fits (s .args .w) (s .args .n) (c .before .loop .i) (c .loop-test .taken) in search needs
-
--- src/lib.rt:66:40
 cell-at-requires : tie.Need-cell-at-requires Inv-loop μ-loop
 cell-at-requires c κs = let s = c .before .before .before in let f = row-fits (s .args .w) (s .args .n) (c .before .loop .i) (c .loop-test .taken) in search needs
-
--- src/lib.rt:66:13
 stored-in-range-requires : tie.Need-stored-in-range-requires Inv-loop μ-loop
 stored-in-range-requires c κs = search needs
-
--- src/lib.rt:67:13
 returns : tie.Need-returns Inv-loop μ-loop
 returns c =
     let k = c .before .before .before .before in
     λ l r. sym (k .loop .inv l r ∙ all-no r cellInRange (k .loop .i) (c .before .before .before .loop-test .taken) (ap cellInRange (sym (c .before .before .cell-at .ensures)) ∙ sym (c .before .stored-in-range .ensures) ∙ not-true _ (c .if1 .taken)))
-
--- src/lib.rt:69:9
 add-i : tie.Need-add-i Inv-loop μ-loop
 add-i c = search needs
-
--- src/lib.rt:65:5
 loop-less : tie.Need-loop-less Inv-loop μ-loop
 loop-less c = search needs
-
--- src/lib.rt:65:5
 loop-again : tie.Need-loop-again Inv-loop μ-loop
 loop-again c =
     let k = c .before .before .before .before in
     λ l r. k .loop .inv l r ∙ all-next r cellInRange (k .loop .i) (c .before .before .before .loop-test .taken) (ap cellInRange (sym (c .before .before .cell-at .ensures)) ∙ sym (c .before .stored-in-range .ensures) ∙ not-false _ (c .if1 .left))
-
--- src/lib.rt:60:1
 returns-2 : tie.Need-returns-2 Inv-loop μ-loop
 returns-2 c = λ l r. sym (c .before .loop .inv l r ∙ all-end r cellInRange (c .before .loop .i) (c .loop-test .left))
 

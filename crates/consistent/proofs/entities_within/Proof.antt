@@ -3,45 +3,29 @@ use lib.Dec.{eqb, leb}
 use mathlib.Core.Bool.{Bool, _&&_}
 use Rattle.consistent.specs.PointLaws.{point1-is}
 use Rattle.consistent.specs.Wholes.{long-words}
-use Prim.Native.Nat.{ℕ, _+_, _-_, _*_, _≤_, _<_}
+use Prim.Native.Nat.{_-_}
 use native.Mathlib.Omega.{arith}
-use mathlib.Core.Path.{_≡_, refl, sym, ap, _∙_}
+use mathlib.Core.Path.{ap, _∙_}
 use borrow.Author.Needs.{needs}
 use Rattle.consistent.proofs.entities_within.Statement.{statement}
 use Rattle.consistent.proofs.entities_within.Tie as tie
 use Rattle.consistent.proofs.entities_within.Reads as reads
 use Rattle.consistent.proofs.entities_within.Lts as lts
 use Rattle.table.proofs.is_table1.Reads as is-table1-reads
-
--- src/lib.rt:23:16
 sub-ents : tie.Need-sub-ents
 sub-ents c = search needs
-
--- src/lib.rt:23:16
 part-ents-start : tie.Need-part-ents-start
 part-ents-start c = search needs
-
--- src/lib.rt:23:16
 part-ents-end : tie.Need-part-ents-end
 part-ents-end c = let h = long-words (c .before .args .state .now) (c .before .pre) in omega arith
-
--- src/lib.rt:24:13
 shared-slice-read-n : tie.Need-shared-slice-read-n
 shared-slice-read-n c = let h = long-words (c .before .before .before .args .state .now) (c .before .before .before .pre) in omega arith
-
--- src/lib.rt:25:6
 shared-slice-read-result : tie.Need-shared-slice-read-result
 shared-slice-read-result c = let h = long-words (c .before .before .before .before .args .state .now) (c .before .before .before .before .pre) in omega arith
-
--- src/lib.rt:25:40
 shared-slice-read-result-2 : tie.Need-shared-slice-read-result-2
 shared-slice-read-result-2 c = let h = long-words (c .before .before .before .before .before .args .state .now) (c .before .before .before .before .before .pre) in omega arith
-
--- src/lib.rt:25:60
 is-table1-requires : tie.Need-is-table1-requires
 is-table1-requires c κs = search needs
-
--- src/lib.rt:19:1
 returns : tie.Need-returns
 returns c =
     let s = c .before .before .before .before .before .before in

@@ -1,37 +1,25 @@
 use Rattle.consistent.specs.ListLaws.{point3-is}
 use Rattle.consistent.specs.PointLaws.{tabled}
 use Rattle.consistent.specs.Wholes.{long-words}
-use Prim.Native.Nat.{ℕ, _+_, _-_, _*_, _≤_, _<_}
+use Prim.Native.Nat.{_-_}
 use native.Mathlib.Omega.{arith}
-use mathlib.Core.Path.{_≡_, refl, sym, ap, _∙_, subst}
+use mathlib.Core.Path.{_∙_}
 use borrow.Author.Needs.{needs}
 use Rattle.consistent.proofs.lists_exact.Statement.{statement}
 use Rattle.consistent.proofs.lists_exact.Tie as tie
 use Rattle.consistent.proofs.lists_exact.Reads as reads
 use Rattle.consistent.proofs.lists_exact.Lts as lts
 use Rattle.lists_check.proofs.lists_right.Reads as lists-right-reads
-
--- src/lib.rt:24:17
 sub-cells : tie.Need-sub-cells
 sub-cells c = search needs
-
--- src/lib.rt:24:17
 part-cells-start : tie.Need-part-cells-start
 part-cells-start c = search needs
-
--- src/lib.rt:24:17
 part-cells-end : tie.Need-part-cells-end
 part-cells-end c = let h = long-words (c .before .args .state .now) (c .before .pre .0) in omega arith
-
--- src/lib.rt:25:37
 shared-slice-read-lists-right : tie.Need-shared-slice-read-lists-right
 shared-slice-read-lists-right c = let h = long-words (c .before .before .before .args .state .now) (c .before .before .before .pre .0) in omega arith
-
--- src/lib.rt:25:5
 lists-right-requires : tie.Need-lists-right-requires
 lists-right-requires c κs = let s = c .before .before .before in tabled (s .args .state .now) (s .pre .0) (s .pre .1) .cells-table
-
--- src/lib.rt:20:1
 returns : tie.Need-returns
 returns c = c .lists-right .ensures ∙ point3-is (c .before .before .before .before .args .state .now)
 

@@ -3,10 +3,10 @@ use borrow.Author.Tests.{not-true, not-false}
 use Rattle.table.specs.Images.{table-facts}
 use Rattle.table.specs.Rows.{cell}
 use Rattle.consistent.specs.PointLaws.{tabled, point8-no, point8-no-2, point8-held}
-use Rattle.consistent.specs.Wholes.{long-words, entities-length, occupied-length, emptied-length}
-use Prim.Native.Nat.{ℕ, _+_, _-_, _*_, _≤_, _<_}
+use Rattle.consistent.specs.Wholes.{long-words}
+use Prim.Native.Nat.{_-_}
 use native.Mathlib.Omega.{arith}
-use mathlib.Core.Path.{_≡_, refl, sym, ap, _∙_}
+use mathlib.Core.Path.{sym, _∙_}
 use borrow.Author.Needs.{needs}
 use Rattle.consistent.proofs.nets_in_order.Statement.{statement}
 use Rattle.consistent.proofs.nets_in_order.Tie as tie
@@ -14,86 +14,48 @@ use Rattle.consistent.proofs.nets_in_order.Reads as reads
 use Rattle.consistent.proofs.nets_in_order.Lts as lts
 use Rattle.consistent.proofs.all_held.Reads as all-held-reads
 use Rattle.table.proofs.is_table4.Reads as is-table4-reads
-
--- src/lib.rt:106:17
 sub-cells : tie.Need-sub-cells
 sub-cells c = search needs
-
--- src/lib.rt:106:17
 part-cells-start : tie.Need-part-cells-start
 part-cells-start c = search needs
-
--- src/lib.rt:106:17
 part-cells-end : tie.Need-part-cells-end
 part-cells-end c = let h = long-words (c .before .args .state .now) (c .before .pre .0) in omega arith
-
--- src/lib.rt:107:20
 sub-occupied : tie.Need-sub-occupied
 sub-occupied c = search needs
-
--- src/lib.rt:107:20
 part-occupied-start : tie.Need-part-occupied-start
 part-occupied-start c = search needs
-
--- src/lib.rt:107:20
 part-occupied-end : tie.Need-part-occupied-end
 part-occupied-end c = let h = long-words (c .before .before .args .state .now) (c .before .before .pre .0) in omega arith
-
--- src/lib.rt:108:19
 sub-emptied : tie.Need-sub-emptied
 sub-emptied c = search needs
-
--- src/lib.rt:108:19
 part-emptied-start : tie.Need-part-emptied-start
 part-emptied-start c = search needs
-
--- src/lib.rt:108:19
 part-emptied-end : tie.Need-part-emptied-end
 part-emptied-end c = let h = long-words (c .before .before .before .args .state .now) (c .before .before .before .pre .0) in omega arith
-
--- src/lib.rt:109:13
 shared-slice-read-m : tie.Need-shared-slice-read-m
 shared-slice-read-m c = let h = long-words (c .before .before .before .before .before .args .state .now) (c .before .before .before .before .before .pre .0) in omega arith
-
--- src/lib.rt:110:13
 shared-slice-read-k : tie.Need-shared-slice-read-k
 shared-slice-read-k c = let h = long-words (c .before .before .before .before .before .before .args .state .now) (c .before .before .before .before .before .before .pre .0) in omega arith
-
--- src/lib.rt:111:13
 shared-slice-read-l : tie.Need-shared-slice-read-l
 shared-slice-read-l c = let h = long-words (c .before .before .before .before .before .before .before .args .state .now) (c .before .before .before .before .before .before .before .pre .0) in omega arith
-
--- src/lib.rt:112:9
 is-table4-requires : tie.Need-is-table4-requires
 is-table4-requires c κs = search needs
-
--- src/lib.rt:113:9
 returns : tie.Need-returns
 returns c = sym (point8-no (c .before .before .before .before .before .before .before .before .before .args .state .now) (c .before .before .before .before .before .before .before .before .before .pre .0) (sym (c .before .is-table4 .ensures) ∙ not-true _ (c .if1 .taken)))
-
--- src/lib.rt:115:9
 is-table4-requires-2 : tie.Need-is-table4-requires-2
 is-table4-requires-2 c κs = search needs
-
--- src/lib.rt:116:9
 returns-2 : tie.Need-returns-2
 returns-2 c = sym (point8-no-2 (c .before .before .before .before .before .before .before .before .before .before .before .args .state .now) (c .before .before .before .before .before .before .before .before .before .before .before .pre .0) (sym (c .before .before .before .is-table4 .ensures) ∙ not-false _ (c .before .before .if1 .left)) (sym (c .before .is-table42 .ensures) ∙ not-true _ (c .if2 .taken)))
-
--- src/lib.rt:118:5
 all-held-requires : tie.Need-all-held-requires
 all-held-requires c κs =
     let s = c .before .before .before .before .before .before .before .before .before .before .before in
     let w = s .args .state .now in
     (tabled w (s .pre .0) (s .pre .1) .cells-table, table-facts cell 4 (getD w 2 0) (take 4096 (drop 51208 w)) (sym (c .before .before .before .is-table4 .ensures) ∙ not-false _ (c .before .before .if1 .left)) .fits)
-
--- src/lib.rt:118:45
 all-held-requires-2 : tie.Need-all-held-requires-2
 all-held-requires-2 c κs =
     let s = c .before .before .before .before .before .before .before .before .before .before .before .before in
     let w = s .args .state .now in
     (tabled w (s .pre .0) (s .pre .1) .cells-table, table-facts cell 4 (getD w 3 0) (take 4096 (drop 55304 w)) (sym (c .before .before .is-table42 .ensures) ∙ not-false _ (c .before .if2 .left)) .fits)
-
--- src/lib.rt:102:1
 returns-3 : tie.Need-returns-3
 returns-3 c =
     point8-held (c .before .before .before .before .before .before .before .before .before .before .before .before .before .args .state .now) (c .before .before .before .before .before .before .before .before .before .before .before .before .before .pre .0) (sym (c .before .before .before .before .before .is-table4 .ensures) ∙ not-false _ (c .before .before .before .before .if1 .left)) (sym (c .before .before .before .is-table42 .ensures) ∙ not-false _ (c .before .before .if2 .left))

@@ -2,9 +2,9 @@ use lib.ListN.{getD, take, drop}
 use Rattle.layout.specs.Rows.{idsIn}
 use Rattle.consistent.specs.GroupLaws.{held-ids, asks-records, point5-uncounted, point5-words}
 use Rattle.consistent.specs.Wholes.{long-words, groups-length}
-use Prim.Native.Nat.{ℕ, _+_, _-_, _*_, _≤_, _<_}
+use Prim.Native.Nat.{_-_}
 use native.Mathlib.Omega.{arith}
-use mathlib.Core.Path.{_≡_, refl, sym, ap, _∙_, subst}
+use mathlib.Core.Path.{sym, _∙_}
 use borrow.Author.Needs.{needs}
 use Rattle.consistent.proofs.records_exact.Statement.{statement}
 use Rattle.consistent.proofs.records_exact.Tie as tie
@@ -12,63 +12,35 @@ use Rattle.consistent.proofs.records_exact.Reads as reads
 use Rattle.consistent.proofs.records_exact.Lts as lts
 use Rattle.consistent.proofs.same_words.Reads as same-words-reads
 use Rattle.partition.proofs.build_records.Reads as build-records-reads
-
--- src/lib.rt:40:15
 sub-ids : tie.Need-sub-ids
 sub-ids c = search needs
-
--- src/lib.rt:40:15
 part-ids-start : tie.Need-part-ids-start
 part-ids-start c = search needs
-
--- src/lib.rt:40:15
 part-ids-end : tie.Need-part-ids-end
 part-ids-end c = let h = long-words (c .before .args .state .now) (c .before .pre .0) in omega arith
-
--- src/lib.rt:41:18
 sub-groups : tie.Need-sub-groups
 sub-groups c = search needs
-
--- src/lib.rt:41:18
 part-groups-start : tie.Need-part-groups-start
 part-groups-start c = search needs
-
--- src/lib.rt:41:18
 part-groups-end : tie.Need-part-groups-end
 part-groups-end c = let h = long-words (c .before .before .args .state .now) (c .before .before .pre .0) in omega arith
-
--- src/lib.rt:43:43
 shared-slice-read-build-records : tie.Need-shared-slice-read-build-records
 shared-slice-read-build-records c = let h = long-words (c .before .before .before .before .args .state .now) (c .before .before .before .before .pre .0) in omega arith
-
--- src/lib.rt:43:62
 slice-aggregate-build-records : tie.Need-slice-aggregate-build-records
 slice-aggregate-build-records c = search needs
-
--- src/lib.rt:43:9
 build-records-requires : tie.Need-build-records-requires
 build-records-requires c κs = let s = c .before .before .before .before .before in asks-records (s .args .state .now) (s .pre .0) (s .pre .1) 9216 (omega arith)
-
--- src/lib.rt:44:13
 shared-slice-read-if1 : tie.Need-shared-slice-read-if1
 shared-slice-read-if1 c = let h = long-words (c .before .before .before .before .before .before .before .before .args .state .now) (c .before .before .before .before .before .before .before .before .pre .0) in omega arith
-
--- src/lib.rt:45:9
 returns : tie.Need-returns
 returns c =
     let s = c .before .before .before .before .before .before .before .before .before in
     let w = s .args .state .now in
     sym (point5-uncounted w (s .pre .0) (s .pre .1) (c .before .before .before .build-records .ensures (idsIn (getD w 4 0) (take 5120 (drop 59400 w))) (held-ids w (s .pre .0) (s .pre .1))) (c .if1 .taken))
-
--- src/lib.rt:47:16
 slice-aggregate-same-words : tie.Need-slice-aggregate-same-words
 slice-aggregate-same-words c = search needs
-
--- src/lib.rt:47:5
 same-words-requires : tie.Need-same-words-requires
 same-words-requires c κs = let s = c .before .before .before .before .before .before .before .before .before .before in c .before .before .before .before .build-records .kept .1 .1 .0 ∙ sym (groups-length (s .args .state .now) (s .pre .0))
-
--- src/lib.rt:36:1
 returns-2 : tie.Need-returns-2
 returns-2 c =
     let s = c .before .before .before .before .before .before .before .before .before .before .before in

@@ -1,13 +1,13 @@
-use lib.ListN.{length, drop}
+use lib.ListN.{drop}
 use borrow.Author.Tests.{not-true, not-false}
 use Rattle.model.specs.Cells.{same}
 use Rattle.model.specs.Lists.{equal, keys}
 use Rattle.table.specs.Rows.{table4}
 use Rattle.scans.specs.Readings.{key-lines}
 use Rattle.scans.specs.Scans.{equal-no, equal-next, equal-end}
-use Prim.Native.Nat.{ℕ, _+_, _-_, _*_, _≤_, _<_}
+use Prim.Native.Nat.{_-_}
 use native.Mathlib.Omega.{arith}
-use mathlib.Core.Path.{_≡_, refl, sym, ap, _∙_, subst}
+use mathlib.Core.Path.{_≡_, refl, sym, _∙_}
 use borrow.Author.Needs.{needs}
 use Rattle.consistent.proofs.same_cells.Statement.{statement}
 use Rattle.consistent.proofs.same_cells.Tie as tie
@@ -21,56 +21,34 @@ Inv-loop cells ids n i₀ i = equal same (keys (table4 5 n ids)) (keys (table4 3
 
 abbrev μ-loop : tie.MeasureT-loop
 μ-loop cells ids n i₀ i = n - i
-
--- src/lib.rt:26:5
 loop-holds : tie.Need-loop-holds Inv-loop μ-loop
 loop-holds c = refl
-
--- src/lib.rt:27:47
 mul-cell-at : tie.Need-mul-cell-at Inv-loop μ-loop
 mul-cell-at c = search needs
-
--- src/lib.rt:27:34
 cell-at-requires : tie.Need-cell-at-requires Inv-loop μ-loop
 cell-at-requires c κs = search needs
-
--- src/lib.rt:27:70
 mul-cell-at-2 : tie.Need-mul-cell-at-2 Inv-loop μ-loop
 mul-cell-at-2 c = search needs
-
--- src/lib.rt:27:55
 cell-at-requires-2 : tie.Need-cell-at-requires-2 Inv-loop μ-loop
 cell-at-requires-2 c κs = search needs
-
--- src/lib.rt:27:13
 same-cell-requires : tie.Need-same-cell-requires Inv-loop μ-loop
 same-cell-requires c κs = search needs
-
--- src/lib.rt:28:13
 returns : tie.Need-returns Inv-loop μ-loop
 returns c =
     let s = c .before .before .before .before .before .before .before .before in
     let l = c .before .before .before .before .before in
     sym (l .loop .inv ∙ equal-no same (key-lines 5 (s .args .n) (s .args .ids .now) (omega arith)) (key-lines 30 (s .args .n) (s .args .cells .now) (omega arith)) (l .loop .i) (c .before .before .before .before .loop-test .taken)
     ((λ i. same (sym (c .before .before .before .cell-at .ensures) i) (sym (c .before .before .cell-at2 .ensures) i)) ∙ sym (c .before .same-cell .ensures) ∙ not-true _ (c .if1 .taken)))
-
--- src/lib.rt:30:9
 add-i : tie.Need-add-i Inv-loop μ-loop
 add-i c = search needs
-
--- src/lib.rt:26:5
 loop-less : tie.Need-loop-less Inv-loop μ-loop
 loop-less c = search needs
-
--- src/lib.rt:26:5
 loop-again : tie.Need-loop-again Inv-loop μ-loop
 loop-again c =
     let s = c .before .before .before .before .before .before .before .before in
     let l = c .before .before .before .before .before in
     l .loop .inv ∙ equal-next same (key-lines 5 (s .args .n) (s .args .ids .now) (omega arith)) (key-lines 30 (s .args .n) (s .args .cells .now) (omega arith)) (l .loop .i) (c .before .before .before .before .loop-test .taken)
     ((λ i. same (sym (c .before .before .before .cell-at .ensures) i) (sym (c .before .before .cell-at2 .ensures) i)) ∙ sym (c .before .same-cell .ensures) ∙ not-false _ (c .if1 .left))
-
--- src/lib.rt:21:1
 returns-2 : tie.Need-returns-2 Inv-loop μ-loop
 returns-2 c =
     let s = c .before .before .before .before in

@@ -4,9 +4,8 @@ use lib.Dec.{eqb}
 use borrow.Author.Tests.{eq-eqb, ne-eqb}
 use Rattle.model.specs.Lists.{equal}
 use Rattle.scans.specs.Scans.{Lines, lines-of, equal-no, equal-next, equal-end}
-use Prim.Native.Nat.{ℕ, _+_, _-_, _*_, _≤_, _<_}
-use native.Mathlib.Omega.{arith}
-use mathlib.Core.Path.{_≡_, refl, sym, ap, _∙_, subst}
+use Prim.Native.Nat.{ℕ, _-_}
+use mathlib.Core.Path.{_≡_, refl, sym, _∙_}
 use borrow.Author.Needs.{needs}
 use Rattle.consistent.proofs.same_words.Statement.{statement}
 use Rattle.consistent.proofs.same_words.Tie as tie
@@ -22,50 +21,30 @@ Inv-loop a b i₀ i = equal eqb a b ≡ equal eqb (drop i a) (drop i b)
 
 abbrev μ-loop : tie.MeasureT-loop
 μ-loop a b i₀ i = length a - i
-
--- src/lib.rt:113:5
 loop-holds : tie.Need-loop-holds Inv-loop μ-loop
 loop-holds c = refl
-
--- src/lib.rt:114:12
 mul-if1 : tie.Need-mul-if1 Inv-loop μ-loop
 mul-if1 c = search needs
-
--- src/lib.rt:114:12
 shared-slice-read-if1 : tie.Need-shared-slice-read-if1 Inv-loop μ-loop
 shared-slice-read-if1 c = search needs
-
--- src/lib.rt:114:20
 mul-if1-2 : tie.Need-mul-if1-2 Inv-loop μ-loop
 mul-if1-2 c = search needs
-
--- src/lib.rt:114:20
 shared-slice-read-if1-2 : tie.Need-shared-slice-read-if1-2 Inv-loop μ-loop
 shared-slice-read-if1-2 c = search needs
-
--- src/lib.rt:115:13
 returns : tie.Need-returns Inv-loop μ-loop
 returns c =
     let s = c .before .before .before .before .before in
     let l = c .before .before .before .before in
     sym (l .loop .inv ∙ equal-no eqb (lined (s .args .a .now) (length (s .args .a .now)) refl) (lined (s .args .b .now) (length (s .args .a .now)) (sym (s .pre))) (l .loop .i) (c .before .before .before .loop-test .taken) (ne-eqb _ _ (c .if1 .taken)))
-
--- src/lib.rt:117:9
 add-i : tie.Need-add-i Inv-loop μ-loop
 add-i c = search needs
-
--- src/lib.rt:113:5
 loop-less : tie.Need-loop-less Inv-loop μ-loop
 loop-less c = search needs
-
--- src/lib.rt:113:5
 loop-again : tie.Need-loop-again Inv-loop μ-loop
 loop-again c =
     let s = c .before .before .before .before .before in
     let l = c .before .before .before .before in
     l .loop .inv ∙ equal-next eqb (lined (s .args .a .now) (length (s .args .a .now)) refl) (lined (s .args .b .now) (length (s .args .a .now)) (sym (s .pre))) (l .loop .i) (c .before .before .before .loop-test .taken) (eq-eqb _ _ (c .if1 .left))
-
--- src/lib.rt:108:1
 returns-2 : tie.Need-returns-2 Inv-loop μ-loop
 returns-2 c =
     let s = c .before .before in

@@ -1,10 +1,10 @@
 use borrow.Author.Tests.{not-true, not-false}
 use Rattle.model.specs.Lists.{values}
 use Rattle.layout.specs.Rows.{entitiesIn}
-use Rattle.consistent.specs.Marks.{Marked, cleared, stood-no, stood-yes}
-use Prim.Native.Nat.{ℕ, _+_, _-_, _*_, _≤_, _<_}
+use Rattle.consistent.specs.Marks.{cleared, stood-no, stood-yes}
+use Prim.Native.Nat.{_-_}
 use native.Mathlib.Omega.{arith}
-use mathlib.Core.Path.{_≡_, refl, sym, ap, _∙_, subst}
+use mathlib.Core.Path.{sym, _∙_}
 use borrow.Author.Needs.{needs}
 use Rattle.consistent.proofs.stood_in.Statement.{statement}
 use Rattle.consistent.proofs.stood_in.Tie as tie
@@ -12,28 +12,16 @@ use Rattle.consistent.proofs.stood_in.Reads as reads
 use Rattle.consistent.proofs.stood_in.Lts as lts
 use Rattle.consistent.proofs.all_marked.Reads as all-marked-reads
 use Rattle.consistent.proofs.mark_rows.Reads as mark-rows-reads
-
--- src/lib.rt:77:38
 slice-aggregate-mark-rows : tie.Need-slice-aggregate-mark-rows
 slice-aggregate-mark-rows c = search needs
-
--- src/lib.rt:77:9
 mark-rows-requires : tie.Need-mark-rows-requires
 mark-rows-requires c κs = let s = c .before .before .before in cleared (s .args .ents .now) (s .args .n) (s .args .cells .now) (s .args .m) 1024 (s .pre .0) (s .pre .1) (s .pre .2)
-
--- src/lib.rt:78:9
 returns : tie.Need-returns
 returns c = let s = c .before .before .before .before .before .before in sym (stood-no (s .args .cells .now) (s .args .m) (s .pre .0) (values (entitiesIn (s .args .n) (s .args .ents .now))) (sym (c .before .before .mark-rows .ensures .0) ∙ not-true _ (c .if1 .taken)))
-
--- src/lib.rt:80:16
 slice-aggregate-all-marked : tie.Need-slice-aggregate-all-marked
 slice-aggregate-all-marked c = search needs
-
--- src/lib.rt:80:5
 all-marked-requires : tie.Need-all-marked-requires
 all-marked-requires c κs = let s = c .before .before .before .before .before .before .before in let h = s .pre .2 in let l = c .before .before .before .mark-rows .ensures .2 in omega arith
-
--- src/lib.rt:72:1
 returns-2 : tie.Need-returns-2
 returns-2 c =
     let s = c .before .before .before .before .before .before .before .before in

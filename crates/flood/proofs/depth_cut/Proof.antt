@@ -2,10 +2,10 @@
 use Prim.Native.Nat.{ℕ, _+_, _-_, _*_, _≤_, _<_}
 use native.Mathlib.Omega.{arith}
 use mathlib.Core.Path.{_≡_, sym, ap, _∙_}
-use mathlib.Core.Bool.{true, false}
+use mathlib.Core.Bool.{true}
 use mathlib.Core.List.{List}
 use mir.Facts.{toZ-ofZ}
-use lib.ListN.{length, take, getD}
+use lib.ListN.{length, getD}
 use borrow.Author.Count.{below-more}
 use borrow.Author.Needs.{needs}
 use borrow.Author.Tests.{not-true, not-false}
@@ -19,11 +19,6 @@ use Rattle.flood.specs.Lines.{whilst-stop, whilst-full}
 use Rattle.flood.specs.Filling.{rows-long, rows-at}
 use Rattle.flood.proofs.depth_cut.Statement.{statement}
 use Rattle.flood.proofs.depth_cut.Tie as tie
-use Rattle.flood.proofs.depth_cut.Reads as reads
-use Rattle.flood.proofs.depth_cut.Lts as lts
-use Rattle.flood.proofs.depth_word.Reads as depth-word-reads
-use Rattle.flood.proofs.is_within.Reads as is-within-reads
-use Rattle.table.proofs.cell_at.Reads as cell-at-reads
 
 abbrev Inv-loop : tie.InvT-loop
 Inv-loop cells n queue count seed depth d s k₀ k = (k ≤ count) × ((j : ℕ) → j < k → within d s (getD (cellsOfRows cells queue count) j s) ≡ true)
@@ -76,64 +71,51 @@ meant l =
 depth-word-requires : tie.Need-depth-word-requires Inv-loop μ-loop
 depth-word-requires c κs = search needs
 
--- src/lib.rt:201:35
 mul-cell-at : tie.Need-mul-cell-at Inv-loop μ-loop
 mul-cell-at c = let f = seeded (c .before .before .before) in search needs
 
--- src/lib.rt:201:9
 cell-at-requires : tie.Need-cell-at-requires Inv-loop μ-loop
 cell-at-requires c κs = let f = seeded (c .before .before .before) in search needs
 
--- src/lib.rt:203:5
 loop-holds : tie.Need-loop-holds Inv-loop μ-loop
 loop-holds c = (omega arith, λ j h. absurd (omega arith))
 
--- src/lib.rt:204:17
 mul-i : tie.Need-mul-i Inv-loop μ-loop
 mul-i c = let f = inside c in search needs
 
--- src/lib.rt:204:17
 shared-slice-read-i : tie.Need-shared-slice-read-i Inv-loop μ-loop
 shared-slice-read-i c = let f = inside (c .before) in search needs
 
--- src/lib.rt:205:39
 mul-cell-at-2 : tie.Need-mul-cell-at-2 Inv-loop μ-loop
 mul-cell-at-2 c = let f = inside (c .before) in search needs
 
--- src/lib.rt:205:13
 cell-at-requires-2 : tie.Need-cell-at-requires-2 Inv-loop μ-loop
 cell-at-requires-2 c κs = let f = inside (c .before) in search needs
 
--- src/lib.rt:206:13
 is-within-requires : tie.Need-is-within-requires Inv-loop μ-loop
 is-within-requires c κs = c .before .before .before .before .before .depth-word .ensures .1
 
--- src/lib.rt:207:13
 returns : tie.Need-returns Inv-loop μ-loop
-returns c = 
+returns c =
     let a = c .before in
     let l = a .before .before .before .before in
     whilst-stop (within (l .before .before .depth-word .result) (l .before .cell-at .result)) (all l) (l .loop .k) (l .before .cell-at .result) (omega (arith, long l, a .before .before .before .loop-test .taken)) (l .loop .inv .1) (tested a ∙ not-true (a .is-within .result) (c .if1 .taken))
     ∙ meant l
 
--- src/lib.rt:209:9
 add-k : tie.Need-add-k Inv-loop μ-loop
 add-k c = search needs
 
--- src/lib.rt:203:5
 loop-less : tie.Need-loop-less Inv-loop μ-loop
 loop-less c = search needs
 
--- src/lib.rt:203:5
 loop-again : tie.Need-loop-again Inv-loop μ-loop
-loop-again c = 
+loop-again c =
     let a = c .before in
     let l = a .before .before .before .before in
     (omega (arith, a .before .before .before .loop-test .taken), below-more _ _ (l .loop .inv .1) (tested a ∙ not-false (a .is-within .result) (c .if1 .left)))
 
--- src/lib.rt:196:1
 returns-2 : tie.Need-returns-2 Inv-loop μ-loop
-returns-2 c = 
+returns-2 c =
     let l = c .before in
     whilst-full (within (l .before .before .depth-word .result) (l .before .cell-at .result)) (all l) (l .loop .k) (l .before .cell-at .result) (omega (arith, long l, c .loop-test .left, l .loop .inv .0)) (l .loop .inv .1)
     ∙ meant l

@@ -8,17 +8,12 @@ use Rattle.component.specs.Stored.{biased}
 use Rattle.component.specs.StoredLaws.{bias-below}
 use Rattle.flood.proofs.depth_word.Statement.{statement}
 use Rattle.flood.proofs.depth_word.Tie as tie
-use Rattle.flood.proofs.depth_word.Reads as reads
-use Rattle.flood.proofs.depth_word.Lts as lts
-use Rattle.component.proofs.stored.Reads as stored-reads
 
--- src/lib.rt:163:9
 stored-requires : tie.Need-stored-requires
 stored-requires c κs = search needs
 
--- src/lib.rt:159:1
 returns : tie.Need-returns
-returns c = 
+returns c =
     let s = c .before in
     let e : c .stored .result .x ≡ biased (s .args .depth) = ap (λ (a : Cell). a .x) (c .stored .ensures) ∙ ap biased (toZ-ofZ (s .fits .depth)) in
     (e, omega (arith, e, bias-below 2147483648 (s .args .depth) (omega (arith, s .fits .depth .sfits))))

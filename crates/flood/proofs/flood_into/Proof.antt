@@ -1,7 +1,7 @@
 -- The loop writes the next cell behind those that are written.
-use Prim.Native.Nat.{ℕ, _+_, _-_, _*_, _≤_, _<_}
+use Prim.Native.Nat.{_+_, _-_, _*_, _≤_, _<_}
 use native.Mathlib.Omega.{arith}
-use mathlib.Core.Path.{_≡_, sym, ap, _∙_}
+use mathlib.Core.Path.{_≡_, sym, _∙_}
 use mathlib.Core.List.{List}
 use lib.ListN.{length, take, getD}
 use borrow.Author.Needs.{needs}
@@ -11,10 +11,6 @@ use Rattle.flood.specs.Answers.{filled, cellsOfRows}
 use Rattle.flood.specs.Filling.{filled-none, filling-kept, filling-step, filling-end, rows-long, rows-at}
 use Rattle.flood.proofs.flood_into.Statement.{statement}
 use Rattle.flood.proofs.flood_into.Tie as tie
-use Rattle.flood.proofs.flood_into.Reads as reads
-use Rattle.flood.proofs.flood_into.Lts as lts
-use Rattle.flood.proofs.write_cell.Reads as write-cell-reads
-use Rattle.table.proofs.cell_at.Reads as cell-at-reads
 
 abbrev Inv-loop : tie.InvT-loop
 Inv-loop cells n rows count answer₀ k₀ answer k = (k ≤ count) × (answer ≡ filled answer₀ (take k (cellsOfRows cells rows count)))
@@ -46,56 +42,46 @@ inside c =
 loop-holds : tie.Need-loop-holds Inv-loop μ-loop
 loop-holds c = let s = c .before .before .before in (omega arith, filled-none (s .args .answer .now) (cellsOfRows (s .args .cells .now) (s .args .rows .now) (s .args .count)))
 
--- src/lib.rt:151:17
 mul-i : tie.Need-mul-i Inv-loop μ-loop
 mul-i c = let f = inside c in search needs
 
--- src/lib.rt:151:17
 shared-slice-read-i : tie.Need-shared-slice-read-i Inv-loop μ-loop
 shared-slice-read-i c = let f = inside (c .before) in search needs
 
--- src/lib.rt:152:39
 mul-cell-at : tie.Need-mul-cell-at Inv-loop μ-loop
 mul-cell-at c = let f = inside (c .before) in search needs
 
--- src/lib.rt:152:13
 cell-at-requires : tie.Need-cell-at-requires Inv-loop μ-loop
 cell-at-requires c κs = let f = inside (c .before) in search needs
 
--- src/lib.rt:153:28
 mul-write-cell : tie.Need-mul-write-cell Inv-loop μ-loop
 mul-write-cell c = let f = kept (c .before .before .before .before) in let p = start (c .before .before .before .before) .pre .1 in search needs
 
--- src/lib.rt:153:9
 write-cell-requires : tie.Need-write-cell-requires Inv-loop μ-loop
 write-cell-requires c κs = let f = kept (c .before .before .before .before) in let p = start (c .before .before .before .before) .pre .1 in search needs
 
--- src/lib.rt:154:9
 add-k : tie.Need-add-k Inv-loop μ-loop
 add-k c = search needs
 
--- src/lib.rt:150:5
 loop-less : tie.Need-loop-less Inv-loop μ-loop
 loop-less c = search needs
 
--- src/lib.rt:150:5
 loop-again : tie.Need-loop-again Inv-loop μ-loop
 unfolding rowCell
-loop-again c = 
+loop-again c =
     let a = c .before .before .before .before in
     let n = a .before .before in
     let l = n .before in
     let s = start l in
-    let h = n .loop-test .taken in
-    (omega arith,
+    let h = n .loop-test .taken in (
+      omega arith,
       filling-step (s .args .answer .now) (all l) (l .loop .k) (l .loop .answer) _ (a .cell-at .result) (a .cell-at .result) (l .loop .inv .1) (c .before .before .write-cell .ensures)
-      (a .cell-at .ensures ∙ sym (rows-at (s .args .cells .now) (s .args .rows .now) (s .args .count) (s .pre .0 .few) (l .loop .k) (a .cell-at .result) h)) (omega (arith, long l)))
+          (a .cell-at .ensures ∙ sym (rows-at (s .args .cells .now) (s .args .rows .now) (s .args .count) (s .pre .0 .few) (l .loop .k) (a .cell-at .result) h)) (omega (arith, long l)),
+    )
 
--- src/lib.rt:145:1
 same-length : tie.Need-same-length Inv-loop μ-loop
 same-length c = kept (c .before)
 
--- src/lib.rt:145:1
 returns : tie.Need-returns Inv-loop μ-loop
 returns c = let l = c .before in filling-end (start l .args .answer .now) (all l) (l .loop .k) (l .loop .answer) (l .loop .inv .1) (omega (arith, long l, c .loop-test .left))
 

@@ -1,21 +1,17 @@
 -- The loop is `Wave`.
 use Prim.Native.Nat.{ℕ, _+_, _-_, _≤_, _<_}
 use native.Mathlib.Omega.{arith}
-use mathlib.Core.Path.{_≡_, refl, sym, _∙_, ap, subst}
+use mathlib.Core.Path.{_≡_, refl, sym, _∙_, subst}
 use mathlib.Core.List.{List}
-use lib.ListN.{length, getD, set, length-set}
+use lib.ListN.{length, set, length-set}
 use borrow.Author.Needs.{needs}
 use Rattle.layout.specs.Rows.{cellsIn}
-use Rattle.flood.specs.Rows.{onward}
 use Rattle.flood.specs.Fronts.{Front, front}
 use Rattle.flood.specs.Standing.{Floodable}
 use Rattle.flood.specs.Reads.{cells-table, cells-read}
-use Rattle.flood.proofs.Wave.{Wave, canon, begun, wave-begun, wave-few, wave-row, wave-space, wave-there, wave-step, wave-end, wave-over}
+use Rattle.flood.proofs.Wave.{Wave, canon, begun, wave-begun, wave-few, wave-fits, wave-row, wave-space, wave-there, wave-step, wave-end, wave-over}
 use Rattle.flood.proofs.flood_rows.Statement.{statement}
 use Rattle.flood.proofs.flood_rows.Tie as tie
-use Rattle.flood.proofs.flood_rows.Reads as reads
-use Rattle.flood.proofs.flood_rows.Lts as lts
-use Rattle.flood.proofs.follow.Reads as follow-reads
 
 abbrev Inv-loop : tie.InvT-loop
 Inv-loop cells n seed label marks₀ queue₀ e₀ h₀ marks queue e h = Wave cells n (cellsIn n cells) seed label (set marks₀ seed 0) queue₀ h (front e marks queue)
@@ -55,62 +51,53 @@ mul-marks c = search needs
 slice-write-marks : tie.Need-slice-write-marks Inv-loop μ-loop
 slice-write-marks c = search needs
 
--- src/lib.rt:81:5
 slice-write-queue : tie.Need-slice-write-queue Inv-loop μ-loop
 slice-write-queue c = search needs
 
--- src/lib.rt:84:5
 loop-holds : tie.Need-loop-holds Inv-loop μ-loop
 loop-holds c = let s = c .before .before .before in wave-begun (s .args .cells .now) (s .args .n) (s .args .seed) (s .args .label) (s .args .marks .now) (s .args .queue .now) (asked s)
 
--- src/lib.rt:85:17
 mul-i : tie.Need-mul-i Inv-loop μ-loop
 mul-i c = let f : c .before .loop .h < length (start (c .before) .args .queue .now) = omega (arith, c .loop-test .taken, c .before .loop .inv .fits, kept (c .before)) in search needs
 
--- src/lib.rt:85:17
 slice-read-i : tie.Need-slice-read-i Inv-loop μ-loop
 slice-read-i c = let f = c .before .before .loop .inv .fits in search needs
 
--- src/lib.rt:86:9
 follow-requires : tie.Need-follow-requires Inv-loop μ-loop
-follow-requires c κs = 
+follow-requires c κs =
     let l = c .before .before .before .before in
     let s = start l in
     let b = c .before .before .before .loop-test .taken in
     record {
       table = cells-table (s .args .cells .now) (s .args .n) (onset s .table) (onset s .cells);
       row = wave-row (s .args .cells .now) (s .args .n) (s .args .seed) (s .args .label) (seeded s) (queue₁ s) (onset s) (l .loop .h) (here l) (l .loop .inv) b _ refl;
+      fits = wave-fits (s .args .cells .now) (s .args .n) (s .args .seed) (s .args .label) (seeded s) (queue₁ s) (onset s) (l .loop .h) (here l) (l .loop .inv);
       there = wave-there (s .args .cells .now) (s .args .n) (s .args .seed) (s .args .label) (seeded s) (queue₁ s) (onset s) (l .loop .h) (here l) (l .loop .inv) b _ refl;
-      space = wave-space (s .args .cells .now) (s .args .n) (s .args .seed) (s .args .label) (seeded s) (queue₁ s) (onset s) (l .loop .h) (here l) (l .loop .inv) b _ refl }
+      space = wave-space (s .args .cells .now) (s .args .n) (s .args .seed) (s .args .label) (seeded s) (queue₁ s) (onset s) (l .loop .h) (here l) (l .loop .inv) b _ refl;
+    }
 
--- src/lib.rt:87:9
 add-h : tie.Need-add-h Inv-loop μ-loop
 add-h c = let b = few (c .before .before .before .before .before .before .before .before .before) in search needs
 
--- src/lib.rt:84:5
 loop-less : tie.Need-loop-less Inv-loop μ-loop
 loop-less c = let b = few (c .before .before .before .before .before .before .before .before .before) in search needs
 
--- src/lib.rt:84:5
 loop-again : tie.Need-loop-again Inv-loop μ-loop
-loop-again c = 
+loop-again c =
     let l = c .before .before .before .before .before .before .before .before .before in
     let s = start l in
     subst (λ (f : Front). Wave (s .args .cells .now) (s .args .n) (cellsIn (s .args .n) (s .args .cells .now)) (s .args .seed) (s .args .label) (seeded s) (queue₁ s) (l .loop .h + 1) f)
     (sym (c .before .before .before .before .follow .ensures))
     (wave-step (s .args .cells .now) (s .args .n) (s .args .seed) (s .args .label) (seeded s) (queue₁ s) (onset s) (l .loop .h) (here l) (l .loop .inv) (c .before .before .before .before .before .before .before .before .loop-test .taken) _ refl)
 
--- src/lib.rt:76:1
 same-length : tie.Need-same-length Inv-loop μ-loop
 same-length c = c .before .loop .inv .marksKept ∙ simp length-set
 
--- src/lib.rt:76:1
 same-length-2 : tie.Need-same-length-2 Inv-loop μ-loop
 same-length-2 c = c .before .loop .inv .queueKept ∙ simp length-set
 
--- src/lib.rt:76:1
 returns : tie.Need-returns Inv-loop μ-loop
-returns c = 
+returns c =
     let l = c .before in
     let s = start l in
     λ t k. wave-over (s .args .cells .now) (s .args .n) (s .args .seed) (s .args .label) (s .args .marks .now) (s .args .queue .now) (asked s)

@@ -1,23 +1,17 @@
 -- The loop is `Following`.
 use Prim.Native.Nat.{ℕ, _+_, _-_, _*_, _≤_, _<_}
 use native.Mathlib.Omega.{arith}
-use mathlib.Core.Path.{_≡_, sym, subst}
-use mathlib.Core.List.{List·Memᴰ as Mem}
 use lib.ListN.{length, getD}
 use borrow.Author.Needs.{needs}
 use Rattle.table.specs.Rows.{cell}
 use Rattle.table.specs.Images.{table-facts}
-use Rattle.flood.specs.Rows.{rowNumbers, onward}
+use Rattle.flood.specs.Rows.{onward}
 use Rattle.flood.specs.Fronts.{Front, front}
 use Rattle.flood.specs.Lines.{getD-mem}
 use Rattle.flood.specs.Listing.{onward-length}
 use Rattle.flood.proofs.Following.{Going, going-start, going-end, going-old, going-space, going-new}
 use Rattle.flood.proofs.follow.Statement.{statement}
 use Rattle.flood.proofs.follow.Tie as tie
-use Rattle.flood.proofs.follow.Reads as reads
-use Rattle.flood.proofs.follow.Lts as lts
-use Rattle.flood.proofs.list_len.Reads as list-len-reads
-use Rattle.flood.proofs.next_row.Reads as next-row-reads
 
 abbrev Inv-loop : tie.InvT-loop
 Inv-loop cells n i label marks₀ queue₀ end m e₀ k₀ marks queue e k = Going label (onward cells n i) (front end marks₀ queue₀) k (front e marks queue)
@@ -52,8 +46,8 @@ within c =
 there : (a : tie.After-next-row Inv-loop μ-loop) → a .next-row .result < length (a .before .before .loop .marks)
 there a =
     let l = a .before .before in
-    let h : getD (rows l) (l .loop .k) 0 < length (start l .args .marks .now) = start l .pre .there (getD (rows l) (l .loop .k) 0) (getD-mem (rows l) (l .loop .k) 0 (within (a .before))) in
-    omega (arith, a .next-row .ensures, l .loop .inv .marksKept)
+    let h : getD (rows l) (l .loop .k) 0 < start l .args .n = start l .pre .there (getD (rows l) (l .loop .k) 0) (getD-mem (rows l) (l .loop .k) 0 (within (a .before))) in
+    omega (arith, a .next-row .ensures, start l .pre .fits, l .loop .inv .marksKept)
 
 -- Where the row is unmarked, the queue has space.
 space : (t : tie.Then1 Inv-loop μ-loop) → t .before .before .before .before .loop .e < length (t .before .before .before .before .loop .queue)
@@ -65,83 +59,65 @@ space t =
 list-len-requires : tie.Need-list-len-requires Inv-loop μ-loop
 list-len-requires c κs = inside (c .before .before .before)
 
--- src/lib.rt:61:5
 loop-holds : tie.Need-loop-holds Inv-loop μ-loop
 loop-holds c = going-start _ _ _
 
--- src/lib.rt:62:13
 next-row-requires : tie.Need-next-row-requires Inv-loop μ-loop
 next-row-requires c κs = let s = start (c .before) in (s .pre .table, s .pre .row, omega (arith, c .loop-test .taken, c .before .before .list-len .ensures))
 
--- src/lib.rt:63:12
 mul-if1 : tie.Need-mul-if1 Inv-loop μ-loop
 mul-if1 c = let h = there c in search needs
 
--- src/lib.rt:63:12
 slice-read-if1 : tie.Need-slice-read-if1 Inv-loop μ-loop
 slice-read-if1 c = let h = there (c .before) in search needs
 
--- src/lib.rt:64:13
 mul-marks : tie.Need-mul-marks Inv-loop μ-loop
 mul-marks c = let h = there (c .before .before) in search needs
 
--- src/lib.rt:64:13
 slice-write-marks : tie.Need-slice-write-marks Inv-loop μ-loop
 slice-write-marks c = let h = there (c .before .before) in search needs
 
--- src/lib.rt:65:13
 mul-queue : tie.Need-mul-queue Inv-loop μ-loop
 mul-queue c = let h = space c in search needs
 
--- src/lib.rt:65:13
 slice-write-queue : tie.Need-slice-write-queue Inv-loop μ-loop
 slice-write-queue c = let h = space c in search needs
 
--- src/lib.rt:66:13
 add-e : tie.Need-add-e Inv-loop μ-loop
 add-e c = let h = space c in search needs
 
--- src/lib.rt:67:13
 add-k : tie.Need-add-k Inv-loop μ-loop
 add-k c = search needs
 
--- src/lib.rt:61:5
 loop-less : tie.Need-loop-less Inv-loop μ-loop
 loop-less c = search needs
 
--- src/lib.rt:61:5
 loop-again : tie.Need-loop-again Inv-loop μ-loop
-loop-again c = 
+loop-again c =
     let a = c .before .before in
     let l = a .before .before in
     going-new (start l .args .label) (rows l) (first l) (l .loop .k) (here l) (within (a .before)) (l .loop .inv) (a .next-row .result) (a .next-row .ensures) (c .if1 .taken)
 
--- src/lib.rt:69:13
 add-k-2 : tie.Need-add-k-2 Inv-loop μ-loop
 add-k-2 c = search needs
 
--- src/lib.rt:61:5
 loop-less-2 : tie.Need-loop-less-2 Inv-loop μ-loop
 loop-less-2 c = search needs
 
--- src/lib.rt:61:5
 loop-again-2 : tie.Need-loop-again-2 Inv-loop μ-loop
-loop-again-2 c = 
+loop-again-2 c =
     let a = c .before .before in
     let l = a .before .before in
     going-old (start l .args .label) (rows l) (first l) (l .loop .k) (here l) (within (a .before)) (l .loop .inv) (a .next-row .result) (a .next-row .ensures) (c .if1 .left)
 
--- src/lib.rt:54:1
 same-length : tie.Need-same-length Inv-loop μ-loop
 same-length c = c .before .loop .inv .marksKept
 
--- src/lib.rt:54:1
 same-length-2 : tie.Need-same-length-2 Inv-loop μ-loop
 same-length-2 c = c .before .loop .inv .queueKept
 
--- src/lib.rt:54:1
 returns : tie.Need-returns Inv-loop μ-loop
-returns c = 
+returns c =
     let l = c .before in
     going-end (start l .args .label) (rows l) (first l) (l .loop .k) (here l)
     (omega (arith, c .loop-test .left, l .before .list-len .ensures, onward-length (start l .args .cells .now) (start l .args .n) (start l .args .i)))

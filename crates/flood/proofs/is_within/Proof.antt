@@ -1,23 +1,17 @@
+-- The three axes one after the other.
 use borrow.Author.Needs.{needs}
 use Rattle.flood.proofs.is_within.Statement.{statement}
 use Rattle.flood.proofs.is_within.Tie as tie
-use Rattle.flood.proofs.is_within.Reads as reads
-use Rattle.flood.proofs.is_within.Lts as lts
-use Rattle.flood.proofs.at_most.Reads as at-most-reads
 
--- src/lib.rt:192:5
 at-most-requires : tie.Need-at-most-requires
 at-most-requires c κs = search needs
 
--- src/lib.rt:192:32
 at-most-requires-2 : tie.Need-at-most-requires-2
 at-most-requires-2 c κs = search needs
 
--- src/lib.rt:192:58
 at-most-requires-3 : tie.Need-at-most-requires-3
 at-most-requires-3 c κs = search needs
 
--- src/lib.rt:188:1
 returns : tie.Need-returns
 returns c = simp (c .before .before .at-most .ensures, c .before .at-most2 .ensures, c .at-most3 .ensures)
 

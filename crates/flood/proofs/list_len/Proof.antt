@@ -8,8 +8,6 @@ use borrow.Author.Needs.{needs}
 use Rattle.flood.specs.Listing.{len-stop, len-full}
 use Rattle.flood.proofs.list_len.Statement.{statement}
 use Rattle.flood.proofs.list_len.Tie as tie
-use Rattle.flood.proofs.list_len.Reads as reads
-use Rattle.flood.proofs.list_len.Lts as lts
 
 abbrev Inv-loop : tie.InvT-loop
 Inv-loop cells i at k₀ k = (k ≤ 26) × ((j : ℕ) → j < k → getD cells (at + j) 0 ≡ 0 → ⊥)
@@ -17,50 +15,39 @@ Inv-loop cells i at k₀ k = (k ≤ 26) × ((j : ℕ) → j < k → getD cells (
 abbrev μ-loop : tie.MeasureT-loop
 μ-loop cells i at k₀ k = 26 - k
 
--- src/lib.rt:20:14
 mul-at : tie.Need-mul-at Inv-loop μ-loop
 mul-at c = search needs
 
--- src/lib.rt:20:14
 add-at : tie.Need-add-at Inv-loop μ-loop
 add-at c = search needs
 
--- src/lib.rt:22:5
 loop-holds : tie.Need-loop-holds Inv-loop μ-loop
 loop-holds c = (omega arith, λ j h. absurd (omega arith))
 
--- src/lib.rt:23:18
 add-if1 : tie.Need-add-if1 Inv-loop μ-loop
 add-if1 c = search needs
 
--- src/lib.rt:23:12
 mul-if1 : tie.Need-mul-if1 Inv-loop μ-loop
 mul-if1 c = search needs
 
--- src/lib.rt:23:12
 shared-slice-read-if1 : tie.Need-shared-slice-read-if1 Inv-loop μ-loop
 shared-slice-read-if1 c = search needs
 
--- src/lib.rt:24:13
 returns : tie.Need-returns Inv-loop μ-loop
 returns c =
     let l = c .before .before .before in
     let s = l .before in
     len-stop (s .args .cells .now) (s .args .i) (s .pre) (l .loop .k) (omega arith) (l .loop .inv .1) (c .if1 .taken)
 
--- src/lib.rt:26:9
 add-k : tie.Need-add-k Inv-loop μ-loop
 add-k c = search needs
 
--- src/lib.rt:22:5
 loop-less : tie.Need-loop-less Inv-loop μ-loop
 loop-less c = search needs
 
--- src/lib.rt:22:5
 loop-again : tie.Need-loop-again Inv-loop μ-loop
 loop-again c = (search needs, below-more _ _ (c .before .before .before .loop .inv .1) (c .if1 .left))
 
--- src/lib.rt:16:1
 returns-2 : tie.Need-returns-2 Inv-loop μ-loop
 returns-2 c =
     let l = c .before in

@@ -1,7 +1,7 @@
 -- The cell of a row, or of a word of its list.
-use Prim.Native.Nat.{_+_, _*_, _≤_, _<_}
+use Prim.Native.Nat.{_+_, _*_, _≤_}
 use native.Mathlib.Omega.{arith}
-use mathlib.Core.Path.{_≡_, sym, ap, _∙_}
+use mathlib.Core.Path.{sym, ap, _∙_}
 use mathlib.Core.List.{_∷_}
 use lib.ListN.{getD}
 use borrow.Author.Needs.{needs}
@@ -11,10 +11,6 @@ use Rattle.flood.specs.Rows.{rowCell, rowList}
 use Rattle.flood.specs.Listing.{numbers-few, near-at}
 use Rattle.flood.proofs.near_cell.Statement.{statement}
 use Rattle.flood.proofs.near_cell.Tie as tie
-use Rattle.flood.proofs.near_cell.Reads as reads
-use Rattle.flood.proofs.near_cell.Lts as lts
-use Rattle.layout.proofs.neighbour_of.Reads as neighbour-of-reads
-use Rattle.table.proofs.cell_at.Reads as cell-at-reads
 
 short : (s : tie.Start) → s .args .k ≤ 26
 short s = omega (arith, s .pre .1, numbers-few (s .args .cells .now) (s .args .row) (s .pre .0))
@@ -22,45 +18,36 @@ short s = omega (arith, s .pre .1, numbers-few (s .args .cells .now) (s .args .r
 mul-cell-at : tie.Need-mul-cell-at
 mul-cell-at c = search needs
 
--- src/lib.rt:122:9
 cell-at-requires : tie.Need-cell-at-requires
 cell-at-requires c κs = search needs
 
--- src/lib.rt:124:9
 returns : tie.Need-returns
 unfolding rowCell
-returns c = 
+returns c =
     let s = c .before .before .before in
     c .before .cell-at .ensures ∙ sym (ap (λ j. getD (rowCell (s .args .cells .now) (s .args .row) ∷ rowList (s .args .cells .now) (s .args .row)) j (rowCell (s .args .cells .now) (s .args .row))) (c .if1 .taken))
 
--- src/lib.rt:126:35
 mul-neighbour-of : tie.Need-mul-neighbour-of
 mul-neighbour-of c = search needs
 
--- src/lib.rt:126:35
 add-neighbour-of : tie.Need-add-neighbour-of
 add-neighbour-of c = search needs
 
--- src/lib.rt:126:35
 add-neighbour-of-2 : tie.Need-add-neighbour-of-2
 add-neighbour-of-2 c = let h = short (c .before .before .before) in search needs
 
--- src/lib.rt:126:29
 mul-neighbour-of-2 : tie.Need-mul-neighbour-of-2
 mul-neighbour-of-2 c = let h = short (c .before .before .before) in search needs
 
--- src/lib.rt:126:29
 shared-slice-read-neighbour-of : tie.Need-shared-slice-read-neighbour-of
 shared-slice-read-neighbour-of c = let h = short (c .before .before .before .before) in search needs
 
--- src/lib.rt:126:5
 neighbour-of-requires : tie.Need-neighbour-of-requires
 neighbour-of-requires c κs = search needs
 
--- src/lib.rt:118:1
 returns-2 : tie.Need-returns-2
 unfolding rowCell
-returns-2 c = 
+returns-2 c =
     let s = c .before .before .before .before .before in
     let w = s .args .cells .now in
     c .neighbour-of .ensures

@@ -1,22 +1,17 @@
 -- A row that is there stands within the words.
-use Prim.Native.Nat.{ℕ, _+_, _*_, _≤_, _<_}
+use Prim.Native.Nat.{_+_, _*_, _≤_, _<_}
 use native.Mathlib.Omega.{arith}
-use mathlib.Core.Path.{_≡_, sym, ap, _∙_}
+use mathlib.Core.Path.{sym, ap, _∙_}
 use lib.ListN.{length, getD}
 use borrow.Author.Needs.{needs}
 use Rattle.model.specs.Cells.{Cell}
-use Rattle.table.specs.Rows.{cell, cellAt}
+use Rattle.table.specs.Rows.{cell}
 use Rattle.table.specs.Images.{table-facts}
 use Rattle.layout.specs.Rows.{neighbourOf}
-use Rattle.flood.specs.Rows.{rowCell, rowNumbers, rowFor}
+use Rattle.flood.specs.Rows.{rowCell, rowFor}
 use Rattle.flood.specs.Listing.{numbers-few, onward-at}
 use Rattle.flood.proofs.next_row.Statement.{statement}
 use Rattle.flood.proofs.next_row.Tie as tie
-use Rattle.flood.proofs.next_row.Reads as reads
-use Rattle.flood.proofs.next_row.Lts as lts
-use Rattle.flood.proofs.row_of.Reads as row-of-reads
-use Rattle.layout.proofs.neighbour_of.Reads as neighbour-of-reads
-use Rattle.table.proofs.cell_at.Reads as cell-at-reads
 
 inside : (s : tie.Start) → (30 * s .args .i + 30 ≤ length (s .args .cells .now))
 inside s = let h = s .pre .1 in omega (arith, table-facts cell 30 (s .args .n) (s .args .cells .now) (s .pre .0) .fits)
@@ -27,39 +22,30 @@ short s = omega (arith, s .pre .2, numbers-few (s .args .cells .now) (s .args .i
 mul-cell-at : tie.Need-mul-cell-at
 mul-cell-at c = let f = inside (c .before) in let g = short (c .before) in search needs
 
--- src/lib.rt:48:9
 cell-at-requires : tie.Need-cell-at-requires
 cell-at-requires c κs = let f = inside (c .before) in let g = short (c .before) in search needs
 
--- src/lib.rt:49:43
 mul-neighbour-of : tie.Need-mul-neighbour-of
 mul-neighbour-of c = let f = inside (c .before .before) in let g = short (c .before .before) in search needs
 
--- src/lib.rt:49:43
 add-neighbour-of : tie.Need-add-neighbour-of
 add-neighbour-of c = let f = inside (c .before .before) in let g = short (c .before .before) in search needs
 
--- src/lib.rt:49:43
 add-neighbour-of-2 : tie.Need-add-neighbour-of-2
 add-neighbour-of-2 c = let f = inside (c .before .before) in let g = short (c .before .before) in search needs
 
--- src/lib.rt:49:37
 mul-neighbour-of-2 : tie.Need-mul-neighbour-of-2
 mul-neighbour-of-2 c = let f = inside (c .before .before) in let g = short (c .before .before) in search needs
 
--- src/lib.rt:49:37
 shared-slice-read-neighbour-of : tie.Need-shared-slice-read-neighbour-of
 shared-slice-read-neighbour-of c = let f = inside (c .before .before .before) in let g = short (c .before .before .before) in search needs
 
--- src/lib.rt:49:9
 neighbour-of-requires : tie.Need-neighbour-of-requires
 neighbour-of-requires c κs = search needs
 
--- src/lib.rt:50:5
 row-of-requires : tie.Need-row-of-requires
 row-of-requires c κs = c .before .before .before .before .pre .0
 
--- src/lib.rt:44:1
 returns : tie.Need-returns
 unfolding rowCell
 returns c =

@@ -1,42 +1,31 @@
 -- The row that is written is the cell's words.
-use mathlib.Core.Path.{_≡_, ap, _∙_}
+use mathlib.Core.Path.{ap, _∙_}
 use mathlib.Core.List.{[], _∷_}
 use borrow.Author.Needs.{needs}
 use Rattle.table.specs.Moves.{over}
 use Rattle.flood.proofs.write_cell.Statement.{statement}
 use Rattle.flood.proofs.write_cell.Tie as tie
-use Rattle.flood.proofs.write_cell.Reads as reads
-use Rattle.flood.proofs.write_cell.Lts as lts
-use Rattle.flood.proofs.signed.Reads as signed-reads
-use Rattle.table.proofs.write_row.Reads as write-row-reads
 
--- src/lib.rt:113:24
 signed-requires : tie.Need-signed-requires
 signed-requires c κs = search needs
 
--- src/lib.rt:113:37
 signed-requires-2 : tie.Need-signed-requires-2
 signed-requires-2 c κs = search needs
 
--- src/lib.rt:113:50
 signed-requires-3 : tie.Need-signed-requires-3
 signed-requires-3 c κs = search needs
 
--- src/lib.rt:114:34
 slice-aggregate-write-row : tie.Need-slice-aggregate-write-row
 slice-aggregate-write-row c = search needs
 
--- src/lib.rt:114:5
 write-row-requires : tie.Need-write-row-requires
 write-row-requires c κs = search needs
 
--- src/lib.rt:109:1
 same-length : tie.Need-same-length
 same-length c = search needs
 
--- src/lib.rt:109:1
 returns : tie.Need-returns
-returns c = 
+returns c =
     let r = c .before .before .before .before .before in
     let s = r .before .before .before .before in
     c .before .before .write-row .ensures

@@ -6,20 +6,12 @@ use Rattle.layout.proofs.neighbour_of.Lts as lts
 use Rattle.component.proofs.adjacent.Reads as adjacent-reads
 use Rattle.layout.proofs.less_one.Reads as less-one-reads
 use Rattle.layout.proofs.or_self.Reads as or-self-reads
-
--- src/lib.rt:36:28
 less-one-requires : tie.Need-less-one-requires
 less-one-requires c κs = search needs
-
--- src/lib.rt:36:9
 adjacent-requires : tie.Need-adjacent-requires
 adjacent-requires c κs = search needs
-
--- src/lib.rt:37:5
 or-self-requires : tie.Need-or-self-requires
 or-self-requires c κs = search needs
-
--- src/lib.rt:33:1
 returns : tie.Need-returns
 returns c = simp (c .or-self .ensures, c .before .adjacent .ensures, c .before .before .less-one .ensures)
 

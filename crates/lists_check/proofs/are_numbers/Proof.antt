@@ -4,9 +4,8 @@ use lib.Dec.{leb}
 use borrow.Author.Tests.{le-leb, lt-leb}
 use Rattle.model.specs.Lists.{all}
 use Rattle.scans.specs.Scans.{Lines, lines-of, all-no, all-next, all-end}
-use Prim.Native.Nat.{ℕ, _+_, _-_, _*_, _≤_, _<_}
-use native.Mathlib.Omega.{arith}
-use mathlib.Core.Path.{_≡_, refl, sym, ap, _∙_, subst}
+use Prim.Native.Nat.{ℕ, _-_}
+use mathlib.Core.Path.{_≡_, refl, sym, _∙_}
 use borrow.Author.Needs.{needs}
 use Rattle.lists_check.proofs.are_numbers.Statement.{statement}
 use Rattle.lists_check.proofs.are_numbers.Tie as tie
@@ -22,36 +21,20 @@ Inv-loop list k₀ k = all (λ n. leb n 26) list ≡ all (λ n. leb n 26) (drop 
 
 abbrev μ-loop : tie.MeasureT-loop
 μ-loop list k₀ k = length list - k
-
--- src/lib.rt:49:5
 loop-holds : tie.Need-loop-holds Inv-loop μ-loop
 loop-holds c = refl
-
--- src/lib.rt:50:17
 mul-if1 : tie.Need-mul-if1 Inv-loop μ-loop
 mul-if1 c = search needs
-
--- src/lib.rt:50:17
 shared-slice-read-if1 : tie.Need-shared-slice-read-if1 Inv-loop μ-loop
 shared-slice-read-if1 c = search needs
-
--- src/lib.rt:51:13
 returns : tie.Need-returns Inv-loop μ-loop
 returns c = let s = c .before .before .before .before in let l = c .before .before .before in sym (l .loop .inv ∙ all-no (lined (s .args .list .now)) (λ n. leb n 26) (l .loop .k) (c .before .before .loop-test .taken) (lt-leb _ _ (c .if1 .taken)))
-
--- src/lib.rt:53:9
 add-k : tie.Need-add-k Inv-loop μ-loop
 add-k c = search needs
-
--- src/lib.rt:49:5
 loop-less : tie.Need-loop-less Inv-loop μ-loop
 loop-less c = search needs
-
--- src/lib.rt:49:5
 loop-again : tie.Need-loop-again Inv-loop μ-loop
 loop-again c = let s = c .before .before .before .before in let l = c .before .before .before in l .loop .inv ∙ all-next (lined (s .args .list .now)) (λ n. leb n 26) (l .loop .k) (c .before .before .loop-test .taken) (le-leb _ _ (c .if1 .left))
-
--- src/lib.rt:45:1
 returns-2 : tie.Need-returns-2 Inv-loop μ-loop
 returns-2 c = let s = c .before .before in let l = c .before in sym (l .loop .inv ∙ all-end (lined (s .args .list .now)) (λ n. leb n 26) (l .loop .k) (c .loop-test .left))
 

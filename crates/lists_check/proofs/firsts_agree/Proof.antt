@@ -1,13 +1,12 @@
-use lib.ListN.{length, drop, getD}
+use lib.ListN.{drop}
 use mathlib.Core.Bool.{not, _||_}
 use borrow.Author.Tests.{eq-eqb, ne-eqb, not-true, not-false}
 use Rattle.model.specs.Lists.{all, count}
 use Rattle.scans.specs.Scans.{all-no, all-next, all-end}
 use Rattle.lists_check.specs.Agree.{agreeAt, firstAgrees}
 use Rattle.lists_check.specs.Agreement.{counted-lines}
-use Prim.Native.Nat.{ℕ, _+_, _-_, _*_, _≤_, _<_}
-use native.Mathlib.Omega.{arith}
-use mathlib.Core.Path.{_≡_, refl, sym, ap, _∙_, subst}
+use Prim.Native.Nat.{_-_}
+use mathlib.Core.Path.{_≡_, refl, sym, _∙_}
 use borrow.Author.Needs.{needs}
 use Rattle.lists_check.proofs.firsts_agree.Statement.{statement}
 use Rattle.lists_check.proofs.firsts_agree.Tie as tie
@@ -20,65 +19,39 @@ Inv-loop ids m marks i₀ i = all (firstAgrees ids m marks) (count 0 m) ≡ all 
 
 abbrev μ-loop : tie.MeasureT-loop
 μ-loop ids m marks i₀ i = m - i
-
--- src/lib.rt:186:5
 loop-holds : tie.Need-loop-holds Inv-loop μ-loop
 loop-holds c = refl
-
--- src/lib.rt:187:12
 mul-if1 : tie.Need-mul-if1 Inv-loop μ-loop
 mul-if1 c = search needs
-
--- src/lib.rt:187:12
 shared-slice-read-if1 : tie.Need-shared-slice-read-if1 Inv-loop μ-loop
 shared-slice-read-if1 c = search needs
-
--- src/lib.rt:187:24
 add-if1 : tie.Need-add-if1 Inv-loop μ-loop
 add-if1 c = search needs
-
--- src/lib.rt:188:17
 row-agrees-requires : tie.Need-row-agrees-requires Inv-loop μ-loop
 row-agrees-requires c κs = (c .before .before .loop-test .taken, c .before .before .before .before .before .before .pre .0, c .before .before .before .before .before .before .pre .1)
-
--- src/lib.rt:189:17
 returns : tie.Need-returns Inv-loop μ-loop
 returns c =
     let s = c .before .before .before .before .before .before .before .before in let l = c .before .before .before .before .before in
     sym (l .loop .inv ∙ all-no (counted-lines (s .args .m)) (firstAgrees (s .args .ids .now) (s .args .m) (s .args .marks .now)) (l .loop .i) (c .before .before .before .before .loop-test .taken)
     (λ t. not (eq-eqb _ _ (c .before .before .if1 .taken) t) || (sym (c .before .row-agrees .ensures) ∙ not-true _ (c .if2 .taken)) t))
-
--- src/lib.rt:191:13
 add-i : tie.Need-add-i Inv-loop μ-loop
 add-i c = search needs
-
--- src/lib.rt:186:5
 loop-less : tie.Need-loop-less Inv-loop μ-loop
 loop-less c = search needs
-
--- src/lib.rt:186:5
 loop-again : tie.Need-loop-again Inv-loop μ-loop
 loop-again c =
     let s = c .before .before .before .before .before .before .before .before in let l = c .before .before .before .before .before in
     l .loop .inv ∙ all-next (counted-lines (s .args .m)) (firstAgrees (s .args .ids .now) (s .args .m) (s .args .marks .now)) (l .loop .i) (c .before .before .before .before .loop-test .taken)
     (λ t. not (eq-eqb _ _ (c .before .before .if1 .taken) t) || (sym (c .before .row-agrees .ensures) ∙ not-false _ (c .if2 .left)) t)
-
--- src/lib.rt:193:13
 add-i-2 : tie.Need-add-i-2 Inv-loop μ-loop
 add-i-2 c = search needs
-
--- src/lib.rt:186:5
 loop-less-2 : tie.Need-loop-less-2 Inv-loop μ-loop
 loop-less-2 c = search needs
-
--- src/lib.rt:186:5
 loop-again-2 : tie.Need-loop-again-2 Inv-loop μ-loop
 loop-again-2 c =
     let s = c .before .before .before .before .before .before in let l = c .before .before .before in
     l .loop .inv ∙ all-next (counted-lines (s .args .m)) (firstAgrees (s .args .ids .now) (s .args .m) (s .args .marks .now)) (l .loop .i) (c .before .before .loop-test .taken)
     (λ t. not (ne-eqb _ _ (c .if1 .left) t) || (all (agreeAt (s .args .ids .now) (s .args .marks .now) (l .loop .i)) (count 0 (s .args .m))))
-
--- src/lib.rt:181:1
 returns-2 : tie.Need-returns-2 Inv-loop μ-loop
 returns-2 c =
     let s = c .before .before .before .before in let l = c .before in

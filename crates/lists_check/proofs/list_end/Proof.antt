@@ -3,11 +3,10 @@ use lib.ListN.{length, getD}
 use lib.Dec.{ltb}
 use mathlib.Core.Bool.{true}
 use borrow.Author.Tests.{lt-ltb}
-use Rattle.model.specs.Lists.{whilst}
 use Rattle.flood.specs.Lines.{whilst-stop, whilst-full}
-use Prim.Native.Nat.{ℕ, _+_, _-_, _*_, _≤_, _<_}
+use Prim.Native.Nat.{ℕ, _-_, _≤_, _<_}
 use native.Mathlib.Omega.{arith}
-use mathlib.Core.Path.{_≡_, refl, sym, ap, _∙_, subst}
+use mathlib.Core.Path.{_≡_, ap}
 use borrow.Author.Needs.{needs}
 use Rattle.lists_check.proofs.list_end.Statement.{statement}
 use Rattle.lists_check.proofs.list_end.Tie as tie
@@ -19,43 +18,27 @@ Inv-loop list k₀ k = (k ≤ length list) × ((j : ℕ) → j < k → ltb 0 (ge
 
 abbrev μ-loop : tie.MeasureT-loop
 μ-loop list k₀ k = length list - k
-
--- src/lib.rt:35:5
 loop-holds : tie.Need-loop-holds Inv-loop μ-loop
 loop-holds c = (omega arith, λ j h. absurd (omega arith))
-
--- src/lib.rt:36:12
 mul-if1 : tie.Need-mul-if1 Inv-loop μ-loop
 mul-if1 c = search needs
-
--- src/lib.rt:36:12
 shared-slice-read-if1 : tie.Need-shared-slice-read-if1 Inv-loop μ-loop
 shared-slice-read-if1 c = search needs
-
--- src/lib.rt:37:13
 returns : tie.Need-returns Inv-loop μ-loop
 returns c =
     let s = c .before .before .before .before in
     let l = c .before .before .before in
     whilst-stop (ltb 0) (s .args .list .now) (l .loop .k) 0 (c .before .before .loop-test .taken) (l .loop .inv .1) (ap (ltb 0) (c .if1 .taken))
-
--- src/lib.rt:39:9
 add-k : tie.Need-add-k Inv-loop μ-loop
 add-k c = search needs
-
--- src/lib.rt:35:5
 loop-less : tie.Need-loop-less Inv-loop μ-loop
 loop-less c = search needs
-
--- src/lib.rt:35:5
 loop-again : tie.Need-loop-again Inv-loop μ-loop
 loop-again c =
     let s = c .before .before .before .before in
     let l = c .before .before .before in
     let h = c .if1 .left in
     (omega arith, below-more _ _ (l .loop .inv .1) (lt-ltb 0 (getD (s .args .list .now) (l .loop .k) 0) (omega arith)))
-
--- src/lib.rt:31:1
 returns-2 : tie.Need-returns-2 Inv-loop μ-loop
 returns-2 c =
     let s = c .before .before in

@@ -1,9 +1,8 @@
 use lib.ListN.{drop}
 use Rattle.table.specs.Rows.{areZero}
 use mathlib.Core.Bool.{_&&_}
-use Prim.Native.Nat.{ℕ, _+_, _-_, _*_, _≤_, _<_}
-use native.Mathlib.Omega.{arith}
-use mathlib.Core.Path.{_≡_, refl, sym, ap, _∙_, subst}
+use Prim.Native.Nat.{ℕ, _-_}
+use mathlib.Core.Path.{ap, _∙_}
 use borrow.Author.Needs.{needs}
 use Rattle.lists_check.proofs.list_tidy.Statement.{statement}
 use Rattle.lists_check.proofs.list_tidy.Tie as tie
@@ -12,20 +11,12 @@ use Rattle.lists_check.proofs.list_tidy.Lts as lts
 use Rattle.lists_check.proofs.are_numbers.Reads as are-numbers-reads
 use Rattle.lists_check.proofs.list_end.Reads as list-end-reads
 use Rattle.table.proofs.zero_from.Reads as zero-from-reads
-
--- src/lib.rt:51:5
 are-numbers-requires : tie.Need-are-numbers-requires
 are-numbers-requires c κs = search needs
-
--- src/lib.rt:51:41
 list-end-requires : tie.Need-list-end-requires
 list-end-requires c κs = search needs
-
--- src/lib.rt:51:25
 zero-from-requires : tie.Need-zero-from-requires
 zero-from-requires c κs = search needs
-
--- src/lib.rt:48:1
 returns : tie.Need-returns
 returns c =
     let s = c .before .before .before .before in

@@ -6,9 +6,8 @@ use Rattle.table.specs.Rows.{cell, table4}
 use Rattle.scans.specs.Scans.{all-no, all-next, all-end}
 use Rattle.lists_check.specs.RowLists.{list-lines, list-part}
 use Rattle.lists_check.specs.Lists.{listRight, rowRight}
-use Prim.Native.Nat.{ℕ, _+_, _-_, _*_, _≤_, _<_}
-use native.Mathlib.Omega.{arith}
-use mathlib.Core.Path.{_≡_, refl, sym, ap, _∙_, subst}
+use Prim.Native.Nat.{_-_, _*_, _≤_}
+use mathlib.Core.Path.{_≡_, refl, sym, _∙_}
 use borrow.Author.Needs.{needs}
 use Rattle.lists_check.proofs.lists_right.Statement.{statement}
 use Rattle.lists_check.proofs.lists_right.Tie as tie
@@ -22,72 +21,40 @@ Inv-loop cells m i₀ i = (30 * m ≤ length cells) × (all (rowRight (keys (tab
 
 abbrev μ-loop : tie.MeasureT-loop
 μ-loop cells m i₀ i = m - i
-
--- src/lib.rt:130:5
 loop-holds : tie.Need-loop-holds Inv-loop μ-loop
 loop-holds c = (table-facts cell 30 (c .before .args .m) (c .before .args .cells .now) (c .before .pre) .fits, refl)
-
--- src/lib.rt:131:17
 mul-a : tie.Need-mul-a Inv-loop μ-loop
 mul-a c = search needs
-
--- src/lib.rt:131:17
 add-a : tie.Need-add-a Inv-loop μ-loop
 add-a c = search needs
-
--- src/lib.rt:132:17
 add-e : tie.Need-add-e Inv-loop μ-loop
 add-e c = search needs
-
--- src/lib.rt:133:20
 mul-list : tie.Need-mul-list Inv-loop μ-loop
 mul-list c = search needs
-
--- src/lib.rt:133:20
 sub-list : tie.Need-sub-list Inv-loop μ-loop
 sub-list c = search needs
-
--- src/lib.rt:133:20
 part-list-start : tie.Need-part-list-start Inv-loop μ-loop
 part-list-start c = search needs
-
--- src/lib.rt:133:20
 part-list-end : tie.Need-part-list-end Inv-loop μ-loop
 part-list-end c = search needs
-
--- src/lib.rt:134:55
 mul-cell-at : tie.Need-mul-cell-at Inv-loop μ-loop
 mul-cell-at c = search needs
-
--- src/lib.rt:134:40
 cell-at-requires : tie.Need-cell-at-requires Inv-loop μ-loop
 cell-at-requires c κs = search needs
-
--- src/lib.rt:134:13
 list-right-requires : tie.Need-list-right-requires Inv-loop μ-loop
 list-right-requires c κs = c .before .before .before .before .before .pre
-
--- src/lib.rt:135:13
 returns : tie.Need-returns Inv-loop μ-loop
 returns c =
     let s = c .before .before .before .before .before .before .before in let l = c .before .before .before .before .before in
     sym (l .loop .inv .1 ∙ all-no (list-lines (s .args .m) (s .args .cells .now)) (rowRight (keys (table4 30 (s .args .m) (s .args .cells .now)))) (l .loop .i) (c .before .before .before .before .loop-test .taken) ((λ t. listRight (keys (table4 30 (s .args .m) (s .args .cells .now))) (sym (c .before .before .cell-at .ensures) t) (sym (list-part (s .args .cells .now) (l .loop .i)) t)) ∙ sym (c .before .list-right .ensures) ∙ not-true _ (c .if1 .taken)))
-
--- src/lib.rt:137:9
 add-i : tie.Need-add-i Inv-loop μ-loop
 add-i c = search needs
-
--- src/lib.rt:130:5
 loop-less : tie.Need-loop-less Inv-loop μ-loop
 loop-less c = search needs
-
--- src/lib.rt:130:5
 loop-again : tie.Need-loop-again Inv-loop μ-loop
 loop-again c =
     let s = c .before .before .before .before .before .before .before in let l = c .before .before .before .before .before in
     (l .loop .inv .0, l .loop .inv .1 ∙ all-next (list-lines (s .args .m) (s .args .cells .now)) (rowRight (keys (table4 30 (s .args .m) (s .args .cells .now)))) (l .loop .i) (c .before .before .before .before .loop-test .taken) ((λ t. listRight (keys (table4 30 (s .args .m) (s .args .cells .now))) (sym (c .before .before .cell-at .ensures) t) (sym (list-part (s .args .cells .now) (l .loop .i)) t)) ∙ sym (c .before .list-right .ensures) ∙ not-false _ (c .if1 .left)))
-
--- src/lib.rt:125:1
 returns-2 : tie.Need-returns-2 Inv-loop μ-loop
 returns-2 c =
     let s = c .before .before .before in let l = c .before in

@@ -1,11 +1,11 @@
-use lib.ListN.{length, getD}
+use lib.ListN.{length}
 use mathlib.Core.List.{List}
 use Rattle.model.specs.Cells.{Cell}
 use Rattle.flood.specs.Standing.{Cells}
 use Rattle.lists_check.specs.Parts.{Labelled, labels-start, labels-skip, labels-asks, labels-flood}
-use Prim.Native.Nat.{ℕ, _+_, _-_, _*_, _≤_, _<_}
+use Prim.Native.Nat.{ℕ, _-_, _≤_}
 use native.Mathlib.Omega.{arith}
-use mathlib.Core.Path.{_≡_, refl, sym, ap, _∙_, subst}
+use mathlib.Core.Path.{_≡_, refl, _∙_, subst}
 use borrow.Author.Needs.{needs}
 use Rattle.lists_check.proofs.mark_parts.Statement.{statement}
 use Rattle.lists_check.proofs.mark_parts.Tie as tie
@@ -19,24 +19,14 @@ Inv-loop cells m marks₀ queue₀ i₀ marks queue i =
 
 abbrev μ-loop : tie.MeasureT-loop
 μ-loop cells m marks₀ queue₀ i₀ marks queue i = m - i
-
--- src/lib.rt:153:5
 loop-holds : tie.Need-loop-holds Inv-loop μ-loop
 loop-holds c = let s = c .before .before .before in (omega arith, refl, refl, λ t k. labels-start (s .args .cells .now) (s .args .m) t k (s .args .marks .now) (s .pre .clear))
-
--- src/lib.rt:154:12
 mul-if1 : tie.Need-mul-if1 Inv-loop μ-loop
 mul-if1 c = let e = c .before .loop .inv .1 in let f = c .before .before .before .before .before .pre .marksFit in omega arith
-
--- src/lib.rt:154:12
 slice-read-if1 : tie.Need-slice-read-if1 Inv-loop μ-loop
 slice-read-if1 c = let e = c .before .before .loop .inv .1 in let f = c .before .before .before .before .before .before .pre .marksFit in omega arith
-
--- src/lib.rt:155:44
 add-flood-rows : tie.Need-add-flood-rows Inv-loop μ-loop
 add-flood-rows c = let e = c .before .before .before .loop .inv .1 in let f = c .before .before .before .before .before .before .before .pre .marksFit in search needs
-
--- src/lib.rt:155:13
 flood-rows-requires : tie.Need-flood-rows-requires Inv-loop μ-loop
 flood-rows-requires c κs =
     let s = c .before .before .before .before .before .before .before .before .before in
@@ -46,50 +36,35 @@ flood-rows-requires c κs =
     let a = s .pre .marksFit in
     let b = s .pre .queueFits in
     labels-asks (s .args .cells .now) (s .args .m) (s .pre .stands .table) (s .pre .stands .cells) (l .loop .i) (l .loop .marks) (l .loop .inv .3 (s .pre .stands .table) (s .pre .stands .cells)) (l .loop .queue) (c .before .before .before .before .loop-test .taken) (c .before .before .if1 .taken) (omega arith) (omega arith)
-
--- src/lib.rt:156:13
 add-i : tie.Need-add-i Inv-loop μ-loop
 add-i c = search needs
-
--- src/lib.rt:153:5
 loop-less : tie.Need-loop-less Inv-loop μ-loop
 loop-less c = search needs
-
--- src/lib.rt:153:5
 loop-again : tie.Need-loop-again Inv-loop μ-loop
 loop-again c =
     let s = c .before .before .before .before .before .before .before .before .before .before .before .before .before .before in
     let l = c .before .before .before .before .before .before .before .before .before .before in
     let h = c .before .before .before .before .before .before .before .before .before .loop-test .taken in
-    let f = c .before .before .before .before .flood-rows .ensures (s .pre .stands .table) (s .pre .stands .cells) in
-    (omega arith, f .marksKept ∙ l .loop .inv .1, f .queueKept ∙ l .loop .inv .2,
-    λ t k. labels-flood (s .args .cells .now) (s .args .m) t k (l .loop .i) (l .loop .marks) (l .loop .inv .3 t k) h (c .before .before .before .before .before .before .before .if1 .taken) _ (c .before .before .before .before .flood-rows .ensures t k .reached))
-
--- src/lib.rt:158:13
+    let f = c .before .before .before .before .flood-rows .ensures (s .pre .stands .table) (s .pre .stands .cells) in (
+      omega arith,
+      f .marksKept ∙ l .loop .inv .1,
+      f .queueKept ∙ l .loop .inv .2,
+      λ t k. labels-flood (s .args .cells .now) (s .args .m) t k (l .loop .i) (l .loop .marks) (l .loop .inv .3 t k) h (c .before .before .before .before .before .before .before .if1 .taken) _ (c .before .before .before .before .flood-rows .ensures t k .reached),
+    )
 add-i-2 : tie.Need-add-i-2 Inv-loop μ-loop
 add-i-2 c = search needs
-
--- src/lib.rt:153:5
 loop-less-2 : tie.Need-loop-less-2 Inv-loop μ-loop
 loop-less-2 c = search needs
-
--- src/lib.rt:153:5
 loop-again-2 : tie.Need-loop-again-2 Inv-loop μ-loop
 loop-again-2 c =
     let s = c .before .before .before .before .before .before .before in
     let l = c .before .before .before in
     let h = c .before .before .loop-test .taken in
     (omega arith, l .loop .inv .1, l .loop .inv .2, λ t k. labels-skip (s .args .cells .now) (s .args .m) t k (l .loop .i) (l .loop .marks) (l .loop .inv .3 t k) h (c .if1 .left))
-
--- src/lib.rt:148:1
 same-length : tie.Need-same-length Inv-loop μ-loop
 same-length c = c .before .loop .inv .1
-
--- src/lib.rt:148:1
 same-length-2 : tie.Need-same-length-2 Inv-loop μ-loop
 same-length-2 c = c .before .loop .inv .2
-
--- src/lib.rt:148:1
 returns : tie.Need-returns Inv-loop μ-loop
 returns c =
     let s = c .before .before .before .before .before in

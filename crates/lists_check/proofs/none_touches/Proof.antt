@@ -1,14 +1,13 @@
-use lib.ListN.{length, drop}
+use lib.ListN.{drop}
 use mathlib.Core.Bool.{not}
 use Rattle.model.specs.Lists.{all, keys}
 use Rattle.table.specs.Rows.{table4}
-use Rattle.component.specs.declared.Cell.{Cell}
 use Rattle.component.specs.Touch.{touches}
 use Rattle.scans.specs.Readings.{key-lines}
 use Rattle.scans.specs.Scans.{all-no, all-next, all-end}
-use Prim.Native.Nat.{ℕ, _+_, _-_, _*_, _≤_, _<_}
+use Prim.Native.Nat.{_-_}
 use native.Mathlib.Omega.{arith}
-use mathlib.Core.Path.{_≡_, refl, sym, ap, _∙_, subst}
+use mathlib.Core.Path.{_≡_, refl, sym, ap, _∙_}
 use borrow.Author.Needs.{needs}
 use Rattle.lists_check.proofs.none_touches.Statement.{statement}
 use Rattle.lists_check.proofs.none_touches.Tie as tie
@@ -22,44 +21,26 @@ Inv-loop cells m c i₀ i = all (λ d. not (touches c d)) (keys (table4 30 m cel
 
 abbrev μ-loop : tie.MeasureT-loop
 μ-loop cells m c i₀ i = m - i
-
--- src/lib.rt:112:5
 loop-holds : tie.Need-loop-holds Inv-loop μ-loop
 loop-holds c = refl
-
--- src/lib.rt:113:50
 mul-cell-at : tie.Need-mul-cell-at Inv-loop μ-loop
 mul-cell-at c = search needs
-
--- src/lib.rt:113:35
 cell-at-requires : tie.Need-cell-at-requires Inv-loop μ-loop
 cell-at-requires c κs = search needs
-
--- src/lib.rt:113:12
 touching-requires : tie.Need-touching-requires Inv-loop μ-loop
 touching-requires c κs = search needs
-
--- src/lib.rt:114:13
 returns : tie.Need-returns Inv-loop μ-loop
 returns c =
     let s = c .before .before .before .before .before .before in let l = c .before .before .before .before in
     sym (l .loop .inv ∙ all-no (key-lines 30 (s .args .m) (s .args .cells .now) (omega arith)) (λ d. not (touches (s .args .c) d)) (l .loop .i) (c .before .before .before .loop-test .taken) (ap not (ap (touches (s .args .c)) (sym (c .before .before .cell-at .ensures)) ∙ sym (c .before .touching .ensures) ∙ c .if1 .taken)))
-
--- src/lib.rt:116:9
 add-i : tie.Need-add-i Inv-loop μ-loop
 add-i c = search needs
-
--- src/lib.rt:112:5
 loop-less : tie.Need-loop-less Inv-loop μ-loop
 loop-less c = search needs
-
--- src/lib.rt:112:5
 loop-again : tie.Need-loop-again Inv-loop μ-loop
 loop-again c =
     let s = c .before .before .before .before .before .before in let l = c .before .before .before .before in
     l .loop .inv ∙ all-next (key-lines 30 (s .args .m) (s .args .cells .now) (omega arith)) (λ d. not (touches (s .args .c) d)) (l .loop .i) (c .before .before .before .loop-test .taken) (ap not (ap (touches (s .args .c)) (sym (c .before .before .cell-at .ensures)) ∙ sym (c .before .touching .ensures) ∙ c .if1 .left))
-
--- src/lib.rt:107:1
 returns-2 : tie.Need-returns-2 Inv-loop μ-loop
 returns-2 c =
     let s = c .before .before .before in let l = c .before in

@@ -1,13 +1,12 @@
-use lib.ListN.{length, drop}
+use lib.ListN.{drop}
 use borrow.Author.Tests.{eq-eqb, ne-eqb}
 use Rattle.model.specs.Lists.{all, keys, count}
 use Rattle.table.specs.Rows.{table4}
 use Rattle.scans.specs.Scans.{all-no, all-next, all-end}
 use Rattle.lists_check.specs.Lists.{rightTimes}
 use Rattle.lists_check.specs.Numbers.{number-lines, times-test}
-use Prim.Native.Nat.{ℕ, _+_, _-_, _*_, _≤_, _<_}
-use native.Mathlib.Omega.{arith}
-use mathlib.Core.Path.{_≡_, refl, sym, ap, _∙_, subst}
+use Prim.Native.Nat.{_+_, _-_}
+use mathlib.Core.Path.{_≡_, refl, sym, _∙_}
 use borrow.Author.Needs.{needs}
 use Rattle.lists_check.proofs.numbers_right.Statement.{statement}
 use Rattle.lists_check.proofs.numbers_right.Tie as tie
@@ -23,52 +22,30 @@ Inv-loop list cells m c i₀ i = all (rightTimes (keys (table4 30 m cells)) c li
 
 abbrev μ-loop : tie.MeasureT-loop
 μ-loop list cells m c i₀ i = 26 - i
-
--- src/lib.rt:84:5
 loop-holds : tie.Need-loop-holds Inv-loop μ-loop
 loop-holds c = refl
-
--- src/lib.rt:85:17
 add-v : tie.Need-add-v Inv-loop μ-loop
 add-v c = search needs
-
--- src/lib.rt:86:33
 neighbour-of-requires : tie.Need-neighbour-of-requires Inv-loop μ-loop
 neighbour-of-requires c κs = search needs
-
--- src/lib.rt:86:13
 holds-requires : tie.Need-holds-requires Inv-loop μ-loop
 holds-requires c κs = search needs
-
--- src/lib.rt:87:12
 times-requires : tie.Need-times-requires Inv-loop μ-loop
 times-requires c κs = search needs
-
--- src/lib.rt:87:30
 once-requires : tie.Need-once-requires Inv-loop μ-loop
 once-requires c κs = search needs
-
--- src/lib.rt:88:13
 returns : tie.Need-returns Inv-loop μ-loop
 returns c =
     let s = c .before .before .before .before .before .before .before .before .before in let l = c .before .before .before .before .before .before in
     sym (l .loop .inv ∙ all-no (number-lines 26) (rightTimes (keys (table4 30 (s .args .m) (s .args .cells .now))) (s .args .c) (s .args .list .now)) (l .loop .i) (c .before .before .before .before .before .loop-test .taken) (sym (times-test (keys (table4 30 (s .args .m) (s .args .cells .now))) (s .args .c) (s .args .list .now) (l .loop .i + 1) (c .before .before .before .before .neighbour-of .ensures) (c .before .before .before .holds .ensures) (c .before .before .times .ensures) (c .before .once .ensures)) ∙ ne-eqb _ _ (c .if1 .taken)))
-
--- src/lib.rt:90:9
 add-i : tie.Need-add-i Inv-loop μ-loop
 add-i c = search needs
-
--- src/lib.rt:84:5
 loop-less : tie.Need-loop-less Inv-loop μ-loop
 loop-less c = search needs
-
--- src/lib.rt:84:5
 loop-again : tie.Need-loop-again Inv-loop μ-loop
 loop-again c =
     let s = c .before .before .before .before .before .before .before .before .before in let l = c .before .before .before .before .before .before in
     l .loop .inv ∙ all-next (number-lines 26) (rightTimes (keys (table4 30 (s .args .m) (s .args .cells .now))) (s .args .c) (s .args .list .now)) (l .loop .i) (c .before .before .before .before .before .loop-test .taken) (sym (times-test (keys (table4 30 (s .args .m) (s .args .cells .now))) (s .args .c) (s .args .list .now) (l .loop .i + 1) (c .before .before .before .before .neighbour-of .ensures) (c .before .before .before .holds .ensures) (c .before .before .times .ensures) (c .before .once .ensures)) ∙ eq-eqb _ _ (c .if1 .left))
-
--- src/lib.rt:79:1
 returns-2 : tie.Need-returns-2 Inv-loop μ-loop
 returns-2 c =
     let s = c .before .before .before .before in let l = c .before in

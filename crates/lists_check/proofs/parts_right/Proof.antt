@@ -1,7 +1,6 @@
 use Rattle.lists_check.specs.Agreement.{agreement, unmarked}
-use Prim.Native.Nat.{ℕ, _+_, _-_, _*_, _≤_, _<_}
-use native.Mathlib.Omega.{arith}
-use mathlib.Core.Path.{_≡_, refl, sym, ap, _∙_, subst}
+use Prim.Native.Nat.{_-_}
+use mathlib.Core.Path.{_∙_}
 use borrow.Author.Needs.{needs}
 use Rattle.lists_check.proofs.parts_right.Statement.{statement}
 use Rattle.lists_check.proofs.parts_right.Tie as tie
@@ -9,28 +8,16 @@ use Rattle.lists_check.proofs.parts_right.Reads as reads
 use Rattle.lists_check.proofs.parts_right.Lts as lts
 use Rattle.lists_check.proofs.firsts_agree.Reads as firsts-agree-reads
 use Rattle.lists_check.proofs.mark_parts.Reads as mark-parts-reads
-
--- src/lib.rt:206:26
 slice-aggregate-mark-parts : tie.Need-slice-aggregate-mark-parts
 slice-aggregate-mark-parts c = search needs
-
--- src/lib.rt:206:38
 slice-aggregate-mark-parts-2 : tie.Need-slice-aggregate-mark-parts-2
 slice-aggregate-mark-parts-2 c = search needs
-
--- src/lib.rt:206:5
 mark-parts-requires : tie.Need-mark-parts-requires
 mark-parts-requires c κs = let s = c .before .before .before .before in unmarked (s .args .cells .now) (s .args .m) 1024 (s .pre .0) (s .pre .2)
-
--- src/lib.rt:207:26
 slice-aggregate-firsts-agree : tie.Need-slice-aggregate-firsts-agree
 slice-aggregate-firsts-agree c = search needs
-
--- src/lib.rt:207:5
 firsts-agree-requires : tie.Need-firsts-agree-requires
 firsts-agree-requires c κs = search needs
-
--- src/lib.rt:200:1
 returns : tie.Need-returns
 returns c =
     let s = c .before .before .before .before .before .before .before .before .before in

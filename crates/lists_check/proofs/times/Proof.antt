@@ -1,11 +1,11 @@
 use mathlib.Core.List.{List}
-use lib.ListN.{length, drop, getD, drop-of-length-le}
+use lib.ListN.{length, drop, drop-of-length-le}
 use lib.Dec.{eqb}
 use Rattle.model.specs.Lists.{keep}
 use Rattle.lists_check.specs.Numbers.{times-yes, times-no}
-use Prim.Native.Nat.{ℕ, _+_, _-_, _*_, _≤_, _<_}
+use Prim.Native.Nat.{ℕ, _+_, _-_, _≤_}
 use native.Mathlib.Omega.{arith}
-use mathlib.Core.Path.{_≡_, refl, sym, ap, _∙_, subst}
+use mathlib.Core.Path.{_≡_, ap}
 use borrow.Author.Needs.{needs}
 use Rattle.lists_check.proofs.times.Statement.{statement}
 use Rattle.lists_check.proofs.times.Tie as tie
@@ -17,32 +17,18 @@ Inv-loop list v t₀ k₀ t k = (k ≤ length list) × (t ≤ k) × (t + length 
 
 abbrev μ-loop : tie.MeasureT-loop
 μ-loop list v t₀ k₀ t k = length list - k
-
--- src/lib.rt:71:5
 loop-holds : tie.Need-loop-holds Inv-loop μ-loop
 loop-holds c = (omega arith, omega arith, omega arith)
-
--- src/lib.rt:72:17
 mul-if1 : tie.Need-mul-if1 Inv-loop μ-loop
 mul-if1 c = search needs
-
--- src/lib.rt:72:17
 shared-slice-read-if1 : tie.Need-shared-slice-read-if1 Inv-loop μ-loop
 shared-slice-read-if1 c = search needs
-
--- src/lib.rt:73:13
 add-t : tie.Need-add-t Inv-loop μ-loop
 add-t c = search needs
-
--- src/lib.rt:74:13
 add-k : tie.Need-add-k Inv-loop μ-loop
 add-k c = search needs
-
--- src/lib.rt:71:5
 loop-less : tie.Need-loop-less Inv-loop μ-loop
 loop-less c = search needs
-
--- src/lib.rt:71:5
 loop-again : tie.Need-loop-again Inv-loop μ-loop
 loop-again c =
     let s = c .before .before .before .before in
@@ -50,16 +36,10 @@ loop-again c =
     let i = l .loop .inv in
     let y = times-yes (s .args .v) (s .args .list .now) (l .loop .k) (c .before .before .loop-test .taken) (c .if1 .taken) in
     (omega arith, omega arith, omega arith)
-
--- src/lib.rt:76:13
 add-k-2 : tie.Need-add-k-2 Inv-loop μ-loop
 add-k-2 c = search needs
-
--- src/lib.rt:71:5
 loop-less-2 : tie.Need-loop-less-2 Inv-loop μ-loop
 loop-less-2 c = search needs
-
--- src/lib.rt:71:5
 loop-again-2 : tie.Need-loop-again-2 Inv-loop μ-loop
 loop-again-2 c =
     let s = c .before .before .before .before in
@@ -67,8 +47,6 @@ loop-again-2 c =
     let i = l .loop .inv in
     let y = times-no (s .args .v) (s .args .list .now) (l .loop .k) (c .before .before .loop-test .taken) (c .if1 .left) in
     (omega arith, omega arith, omega arith)
-
--- src/lib.rt:66:1
 returns : tie.Need-returns Inv-loop μ-loop
 returns c =
     let s = c .before .before in

@@ -1,6 +1,6 @@
 -- The answer of the search is whether the cell is a key.
 use Rattle.map.proofs.Steps.{found-has, missing-hasnt}
-use mathlib.Core.Path.{_≡_, sym, _∙_}
+use mathlib.Core.Path.{sym, _∙_}
 use borrow.Author.Needs.{needs}
 use Rattle.map.proofs.contains.Statement.{statement}
 use Rattle.map.proofs.contains.Tie as tie

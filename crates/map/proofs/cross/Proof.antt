@@ -2,7 +2,7 @@
 use Rattle.map.proofs.Steps.{cross-leaves, cross-joins}
 use Rattle.table.specs.Next.{room-space}
 use Rattle.table.specs.Rows.{cell}
-use mathlib.Core.Path.{_≡_, sym, _∙_}
+use mathlib.Core.Path.{sym, _∙_}
 use borrow.Author.Needs.{needs}
 use Rattle.map.proofs.cross.Statement.{statement}
 use Rattle.map.proofs.cross.Tie as tie

@@ -6,9 +6,9 @@ use Rattle.table.specs.Rows.{cell}
 use Rattle.layout.specs.Rows.{idRow, entitiesIn}
 use Rattle.model.specs.Lists.{each}
 use lib.ListN.{length}
-use mathlib.Core.Path.{_≡_, refl, sym, ap, _∙_, subst}
+use mathlib.Core.Path.{_≡_, refl, _∙_, subst}
 use native.Mathlib.Omega.{arith}
-use Prim.Native.Nat.{ℕ, _+_, _-_, _*_, _≤_, _<_}
+use Prim.Native.Nat.{ℕ, _-_, _≤_}
 use borrow.Author.Needs.{needs}
 use Rattle.map.proofs.crowd_of.Statement.{statement}
 use Rattle.map.proofs.crowd_of.Tie as tie

@@ -1,11 +1,6 @@
 -- The number stands behind the four words of the row that is found.
 use Rattle.map.proofs.Lookups.{counted-within, counted-found, counted-missing}
-use Rattle.table.specs.Rows.{table4, placeOf}
-use Rattle.table.specs.declared.Place.the-variants.{Found}
-use Rattle.model.specs.Lists.{keys}
-use Rattle.component.specs.Order.{below}
-use mathlib.Core.Path.{_≡_, sym, _∙_}
-use native.Mathlib.Omega.{arith}
+use mathlib.Core.Path.{sym, _∙_}
 use borrow.Author.Needs.{needs}
 use Rattle.map.proofs.how_many.Statement.{statement}
 use Rattle.map.proofs.how_many.Tie as tie

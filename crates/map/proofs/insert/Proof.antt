@@ -3,7 +3,7 @@ use Rattle.map.proofs.Passing.{stored-but, ents-shows, crowd-shows, ent
 use Rattle.table.specs.Next.{room-space}
 use Rattle.table.specs.Rows.{number, cell}
 use mathlib.Core.Bool.{true, false}
-use mathlib.Core.Path.{_≡_, refl, sym, ap, _∙_}
+use mathlib.Core.Path.{refl}
 use native.Mathlib.Omega.{arith}
 use borrow.Author.Needs.{needs}
 use Rattle.map.proofs.insert.Statement.{statement}

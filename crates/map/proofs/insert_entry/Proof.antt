@@ -1,10 +1,7 @@
 -- The tables are those of `Entries`, opened.
 use Rattle.map.proofs.Entries.{put-asks, opens-shown, opened-stored}
-use lib.ListN.{length}
-use mathlib.Core.List.{List}
-use mathlib.Core.Path.{_≡_, refl, sym, ap, _∙_}
+use mathlib.Core.Path.{refl, _∙_}
 use native.Mathlib.Omega.{arith}
-use Prim.Native.Nat.{ℕ, suc, _*_, _≤_}
 use borrow.Author.Needs.{needs}
 use Rattle.map.proofs.insert_entry.Statement.{statement}
 use Rattle.map.proofs.insert_entry.Tie as tie

@@ -6,10 +6,10 @@ use Rattle.layout.specs.Rows.{neighbourOf}
 use Rattle.model.specs.Lists.{has, keys}
 use Rattle.component.specs.Order.{same}
 use lib.ListN.{length, take}
-use mathlib.Core.List.{List, _++_}
+use mathlib.Core.List.{_++_}
 use mathlib.Core.Path.{_≡_, refl, sym, ap, _∙_}
 use native.Mathlib.Omega.{arith}
-use Prim.Native.Nat.{ℕ, _+_, _-_, _≤_, _<_}
+use Prim.Native.Nat.{ℕ, _+_, _-_, _≤_}
 use borrow.Author.Needs.{needs}
 use Rattle.map.proofs.note.Statement.{statement}
 use Rattle.map.proofs.note.Tie as tie

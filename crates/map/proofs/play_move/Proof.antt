@@ -3,8 +3,8 @@ use Rattle.map.proofs.Playing.{stands-at, stands-nowhere, move-still, m
 use Rattle.map.proofs.Passing.{ents-shows}
 use Rattle.map.specs.Held.{Held}
 use Rattle.model.specs.Cells.{touch26}
-use Rattle.model.specs.Occupancy.{Occupancy, enter, leave}
-use mathlib.Core.Path.{_≡_, refl, sym, ap, _∙_, subst}
+use Rattle.model.specs.Occupancy.{Occupancy, leave}
+use mathlib.Core.Path.{sym, _∙_, subst}
 use borrow.Author.Needs.{needs}
 use Rattle.map.proofs.play_move.Statement.{statement}
 use Rattle.map.proofs.play_move.Tie as tie

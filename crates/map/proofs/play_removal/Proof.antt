@@ -2,8 +2,8 @@
 use Rattle.map.proofs.Playing.{stands-at, stands-nowhere, removal-known, removal-unknown, can-leave}
 use Rattle.map.proofs.Passing.{ents-shows}
 use Rattle.map.specs.Held.{Held}
-use Rattle.model.specs.Occupancy.{Occupancy, enter, leave}
-use mathlib.Core.Path.{_≡_, refl, sym, ap, _∙_, subst}
+use Rattle.model.specs.Occupancy.{Occupancy}
+use mathlib.Core.Path.{subst}
 use borrow.Author.Needs.{needs}
 use Rattle.map.proofs.play_removal.Statement.{statement}
 use Rattle.map.proofs.play_removal.Tie as tie

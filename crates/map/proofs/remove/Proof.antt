@@ -1,7 +1,6 @@
 -- Each way out is one of `Passing`: the last has left, or others stay.
 use Rattle.map.proofs.Passing.{stored-but, ents-shows, crowd-shows, leaves-closes, leaves-room, left-last, left-others}
-use mathlib.Core.Path.{_≡_, refl, sym, ap, _∙_}
-use native.Mathlib.Omega.{arith}
+use mathlib.Core.Path.{refl}
 use borrow.Author.Needs.{needs}
 use Rattle.map.proofs.remove.Statement.{statement}
 use Rattle.map.proofs.remove.Tie as tie

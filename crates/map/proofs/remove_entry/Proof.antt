@@ -1,11 +1,7 @@
 -- The tables are those of `Entries`, closed.
 use Rattle.map.proofs.Entries.{closes-shown, closes-gone, closed-stored}
 use lib.ListN.{length}
-use mathlib.Core.List.{List}
-use mathlib.Core.Path.{_≡_, refl, sym, ap, _∙_}
-use native.Mathlib.Omega.{arith}
-use Prim.Native.Nat.{ℕ, suc, _*_, _≤_}
-use borrow.Author.Needs.{needs}
+use mathlib.Core.Path.{refl, _∙_}
 use Rattle.map.proofs.remove_entry.Statement.{statement}
 use Rattle.map.proofs.remove_entry.Tie as tie
 

@@ -1,7 +1,7 @@
 -- Each branch is one of the two changes.
 use Rattle.map.specs.Told.{revisedRow}
 use mathlib.Core.Bool.{Bool}
-use mathlib.Core.Path.{_≡_, sym, ap, _∙_}
+use mathlib.Core.Path.{sym, ap, _∙_}
 use borrow.Author.Needs.{needs}
 use Rattle.map.proofs.revise_row.Statement.{statement}
 use Rattle.map.proofs.revise_row.Tie as tie

@@ -1,10 +1,9 @@
 -- The words that stay are those moved to the front and those still to come.
 use Rattle.map.proofs.RowWords.{squeezing, squeeze-skip, squeeze-keep, squeeze-end}
-use lib.ListN.{length, take, drop, getD, set, length-set}
-use mathlib.Core.List.{List, _++_}
-use mathlib.Core.Path.{_≡_, refl, sym, ap, _∙_}
+use lib.ListN.{length, length-set}
+use mathlib.Core.Path.{_≡_, refl, sym, _∙_}
 use native.Mathlib.Omega.{arith}
-use Prim.Native.Nat.{ℕ, _-_, _≤_}
+use Prim.Native.Nat.{_-_, _≤_}
 use borrow.Author.Needs.{needs}
 use Rattle.map.proofs.squeeze.Statement.{statement}
 use Rattle.map.proofs.squeeze.Tie as tie

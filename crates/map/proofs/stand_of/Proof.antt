@@ -1,7 +1,6 @@
 -- The cell stands behind the first word of the row that is found.
 use Rattle.map.proofs.Lookups.{stand-within, stand-found, stand-missing}
-use mathlib.Core.Path.{_≡_, sym, _∙_}
-use native.Mathlib.Omega.{arith}
+use mathlib.Core.Path.{sym, _∙_}
 use borrow.Author.Needs.{needs}
 use Rattle.map.proofs.stand_of.Statement.{statement}
 use Rattle.map.proofs.stand_of.Tie as tie

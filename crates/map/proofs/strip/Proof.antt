@@ -1,7 +1,6 @@
 -- The words that stay are followed by zeros.
 use Rattle.map.proofs.RowWords.{strip-end}
 use mathlib.Core.Path.{_∙_}
-use Prim.Native.Nat.{ℕ}
 use borrow.Author.Needs.{needs}
 use Rattle.map.proofs.strip.Statement.{statement}
 use Rattle.map.proofs.strip.Tie as tie

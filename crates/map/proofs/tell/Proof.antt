@@ -1,16 +1,13 @@
 -- After k numbers the first k neighbours are told.
 use Rattle.map.specs.TableLaws.{told-none, told-more}
 use Rattle.map.specs.Told.{Shows, toldOne, told}
-use Rattle.table.specs.Rows.{cell, table4, isTable4}
+use Rattle.table.specs.Rows.{cell, table4}
 use Rattle.layout.specs.Rows.{neighbourOf}
 use Rattle.model.specs.Lists.{change}
-use Rattle.component.specs.declared.Cell.{Cell}
 use lib.ListN.{length}
-use mathlib.Core.Bool.{true}
-use mathlib.Core.List.{List}
-use mathlib.Core.Path.{_≡_, refl, sym, ap, _∙_}
+use mathlib.Core.Path.{_≡_, refl, ap, _∙_}
 use native.Mathlib.Omega.{arith}
-use Prim.Native.Nat.{ℕ, _+_, _-_, _≤_, _<_}
+use Prim.Native.Nat.{ℕ, _+_, _-_, _≤_}
 use borrow.Author.Needs.{needs}
 use Rattle.map.proofs.tell.Statement.{statement}
 use Rattle.map.proofs.tell.Tie as tie

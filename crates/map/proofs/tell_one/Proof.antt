@@ -1,13 +1,11 @@
 -- The row that is found is revised; where there is none, nothing changes.
 use Rattle.map.proofs.Steps.{found-row, told-found, told-missing}
 use Rattle.table.specs.Rows.{table4, placeOf}
-use Rattle.table.specs.declared.Place.the-variants.{Found, Missing}
 use Rattle.layout.specs.Rows.{neighbourOf}
-use Rattle.model.specs.Lists.{keys, change}
-use Rattle.component.specs.declared.Cell.{Cell}
+use Rattle.model.specs.Lists.{keys}
 use Rattle.component.specs.Order.{below}
-use mathlib.Core.Path.{_≡_, sym, _∙_, ap}
-use Prim.Native.Nat.{ℕ, _-_}
+use mathlib.Core.Path.{sym, _∙_, ap}
+use Prim.Native.Nat.{_-_}
 use borrow.Author.Needs.{needs}
 use Rattle.map.proofs.tell_one.Statement.{statement}
 use Rattle.map.proofs.tell_one.Tie as tie

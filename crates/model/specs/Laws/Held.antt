@@ -21,7 +21,8 @@ use Rattle.model.specs.Laws.Fine.{Fine, members-out}
 use Rattle.model.specs.Laws.Pieces.{takers, takers-out}
 use Rattle.model.specs.Laws.PieceOrder.{pieces-sub, pieces-some, pieces-apart, takers-apart}
 use Rattle.model.specs.Laws.Split.{split-fine, rule2-fine}
-use Rattle.model.specs.Laws.Onward.{value-out, at-value}
+use Rattle.model.specs.Laws.Onward.{at-value}
+use Rattle.model.specs.Laws.Values.{value-row}
 
 -- Each id from a number up to below the next id is held by a cell.
 abbrev pub Held : ℕ → Groups → Type 0
@@ -81,7 +82,7 @@ module _ (touch : Cell → Cell → Bool) (flip : (a b : Cell) → T (touch a b)
       let fine : Fine touch gs left = rule2-fine touch flip emptied s ok in
       held-few (s .next) (run (split touch) left gs)
       (splits-held (s .next) gs left fine
-      (λ g m. let r = value-out (only (λ c. any (λ d. touch d c) emptied) (left .ids)) (ascending-out numbers _ m) in
+      (λ g m. let r = value-row (only (λ c. any (λ d. touch d c) emptied) (left .ids)) (ascending-out numbers _ m) in
       let k = keep-out (λ (q : Cell × ℕ). any (λ d. touch d (q .0)) emptied) (left .ids) (r .1) in
       subst (λ h. h < s .next) (sym (r .2)) (fine .under (fine .fair (r .0) (k .0))))
       (λ h up down. absurd (omega arith)))

@@ -10,24 +10,17 @@ use Rattle.model.specs.Cells.{Cell, same, below}
 use Rattle.model.specs.Groups.{Ids, Groups, members, largestGroup, foundAt, joinFound, rule1, rule2, rule3, regroup, affected, takeNext, split, splitInto, parts, largestPiece, smaller}
 use Rattle.model.specs.Laws.Tests.{decided, cond-yes, cond-no}
 use Rattle.model.specs.Laws.Orders.{cells, numbers}
-use Rattle.model.specs.Laws.Members.{keep-out, each-in, each-out, mem-or}
+use Rattle.model.specs.Laws.Members.{keep-out, each-out, mem-or}
 use Rattle.model.specs.Laws.Tables.{At, Fair, at-mem, put-out}
+use Rattle.model.specs.Laws.Values.{value-in, value-row}
 use Rattle.model.specs.Laws.Largest.{largest-in}
 use Rattle.model.specs.Laws.Join.{mergedId, merged-in, merged-out}
 
 module _ {K W : Type 0} where
-  -- The value of a row is a value.
-  pub value-in : {q : K × W} {t : List (K × W)} → Mem q t → Mem (q .1) (values t)
-  value-in m = each-in (λ (p : K × W). p .1) m
-
-  -- A value is the value of a row.
-  pub value-out : {v : W} (t : List (K × W)) → Mem v (values t) → (q : K × W) × Mem q t × (v ≡ q .1)
-  value-out t m = each-out (λ (p : K × W). p .1) t m
-
   -- A changed value is the change of a row.
   pub change-value : (f : K → W → W) (t : List (K × W)) {v : W} → Mem v (values (change f t)) → (q : K × W) × Mem q t × (v ≡ f (q .0) (q .1))
   change-value f t {v} m =
-      let r = value-out (change f t) m in
+      let r = value-row (change f t) m in
       let k = each-out (λ (p : K × W). (p .0, f (p .0) (p .1))) t (r .1) in
       (k .0, k .1, r .2 ∙ ap (λ (p : K × W). p .1) (k .2))
 
@@ -37,7 +30,7 @@ at-value ids p = value-in (at-mem cells ids p)
 
 -- A value is an id that a cell has.
 pub value-at : {g : ℕ} (ids : Ids) → Fair same ids → Mem g (values ids) → (a : Cell) × At same ids a g
-value-at ids fair m = let r = value-out ids m in (r .0 .0, subst (λ h. At same ids (r .0 .0) h) (sym (r .2)) (fair (r .0) (r .1)))
+value-at ids fair m = let r = value-row ids m in (r .0 .0, subst (λ h. At same ids (r .0 .0) h) (sym (r .2)) (fair (r .0) (r .1)))
 
 -- The next id does not fall, and each id is old or one of those given since.
 pub record Onward (s t : Groups) : Type 0 where
@@ -68,11 +61,11 @@ module _ (touch : Cell → Cell → Bool) where
   rule1-onward s c = go (foundAt touch (s .ids) c) refl
     where
       was : {g : ℕ} → Mem g (foundAt touch (s .ids) c) → Mem g (values (s .ids))
-      was {g} m = let r = value-out (only (touch c) (s .ids)) m in subst (λ h. Mem h (values (s .ids))) (sym (r .2)) (value-in (keep-out (λ (q : Cell × ℕ). touch c (q .0)) (s .ids) (r .1) .0))
+      was {g} m = let r = value-row (only (touch c) (s .ids)) m in subst (λ h. Mem h (values (s .ids))) (sym (r .2)) (value-in (keep-out (λ (q : Cell × ℕ). touch c (q .0)) (s .ids) (r .1) .0))
 
       put-value : (v : ℕ) {g : ℕ} → Mem g (values (put below c v (s .ids))) → (g ≡ v) ⊎ Mem g (values (s .ids))
       put-value v {g} m =
-          let r = value-out (put below c v (s .ids)) m in
+          let r = value-row (put below c v (s .ids)) m in
           ⊎-elim (λ e. inl (r .2 ∙ ap (λ (q : Cell × ℕ). q .1) e)) (λ k. inr (subst (λ h. Mem h (values (s .ids))) (sym (r .2)) (value-in k))) (put-out cells (s .ids) c v (r .1))
 
       go : (l : List ℕ) → foundAt touch (s .ids) c ≡ l → Onward s (joinFound touch s c l)
@@ -96,7 +89,7 @@ module _ (touch : Cell → Cell → Bool) where
       record {
         grows = omega arith;
         given = λ {g} m.
-            let r = value-out (only (λ c. not (has same emptied c)) (s .ids)) m in
+            let r = value-row (only (λ c. not (has same emptied c)) (s .ids)) m in
             inl (subst (λ h. Mem h (values (s .ids))) (sym (r .2)) (value-in (keep-out (λ (q : Cell × ℕ). not (has same emptied (q .0))) (s .ids) (r .1) .0)));
       }
 

@@ -1,5 +1,5 @@
 -- Touching by a set of offsets: symmetric, within one grid, never of a cell and itself; and the neighbours in order.
-use Prim.Native.Nat.{ℕ, zero, suc, _+_, _-_, _≤_, _<_}
+use Prim.Native.Nat.{ℕ, suc, _+_, _-_, _≤_, _<_}
 use native.Mathlib.Omega.{arith}
 use mathlib.Core.Path.{_≡_, sym, subst}
 use mathlib.Core.Logic.{⊎-elim}
@@ -8,7 +8,7 @@ use mathlib.Core.List.{List, List·Memᴰ as Mem}
 use lib.Dec.{T, T-not, not-T, eqb, eqb→eq, eqb-refl, leb, leb→le, le→leb, ltb, ltb→lt, lt→ltb}
 use Rattle.component.specs.Order.{before}
 use Rattle.component.specs.Touch.{close, touches}
-use Rattle.model.specs.Lists.{keep, any, all, each, has, count}
+use Rattle.model.specs.Lists.{keep, any, all, has, count}
 use Rattle.model.specs.Cells.{Cell, same, below, Offset, Offsets, moves, offsets26, all26, opposite, holdsOpposites, leads, touchBy, shift, neighbours}
 use Rattle.model.specs.Laws.Tests.{and-fst, and-snd, and-both, or-cases, or-left, or-right, eqb-of, same-test}
 use Rattle.model.specs.Laws.Orders.{cells, differ}

@@ -11,13 +11,17 @@ use Rattle.model.specs.Laws.Tables.{At, Free, at-mem, key-free, put-out,
 
 module _ {K W : Type 0} where
   -- The value of a row is a value.
-  pub value-in : {k : K} {v : W} {t : List (K × W)} → Mem (k, v) t → Mem v (values t)
+  pub value-in : {q : K × W} {t : List (K × W)} → Mem q t → Mem (q .1) (values t)
   value-in m = each-in (λ (p : K × W). p .1) m
 
   -- A value is the value of a row.
+  pub value-row : {v : W} (t : List (K × W)) → Mem v (values t) → (q : K × W) × Mem q t × (v ≡ q .1)
+  value-row t m = each-out (λ (p : K × W). p .1) t m
+
+  -- A value stands in a row beside some key.
   pub value-out : {v : W} (t : List (K × W)) → Mem v (values t) → (k : K) × Mem (k, v) t
   value-out {v} t m =
-      let r : (p : K × W) × Mem p t × (v ≡ p .1) = each-out (λ (p : K × W). p .1) t m in
+      let r : (p : K × W) × Mem p t × (v ≡ p .1) = value-row t m in
       (r .0 .0, subst (λ w. Mem (r .0 .0, w) t) (sym (r .2)) (r .1))
 
   -- What a change makes hold of each row holds of the rows after it.

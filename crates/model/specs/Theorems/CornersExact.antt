@@ -15,7 +15,7 @@ use Rattle.model.specs.Groups.{Group, Corner, members, groupOf, cornerAt
 use Rattle.model.specs.Update.{State}
 use Rattle.model.specs.Questions.{idOf, idList, groupBy}
 use Rattle.model.specs.Consistent.{consistent}
-use Rattle.model.specs.Laws.Orders.{cells, numbers}
+use Rattle.model.specs.Laws.Orders.{cells}
 use Rattle.model.specs.Laws.Tables.{At, at-mem, asc-fair}
 use Rattle.model.specs.Laws.Values.{value-in}
 use Rattle.model.specs.Laws.Fine.{members-out}

@@ -6,7 +6,7 @@ use mathlib.Core.Bool.{Bool, not}
 use mathlib.Core.List.{List·Memᴰ as Mem}
 use lib.Dec.{T}
 use lib.ListN.{length}
-use Rattle.model.specs.Lists.{all, has}
+use Rattle.model.specs.Lists.{has}
 use Rattle.model.specs.Cells.{Cell, same, cellInRange, Offsets, all26, holdsOpposites, touchBy}
 use Rattle.model.specs.Occupancy.{Occupancy, Batch, events, occupied, startBatch, playBatch}
 use Rattle.model.specs.Update.{State, fresh, accepted, update}

@@ -1,10 +1,10 @@
 use Rattle.partition.specs.JoinLaws.{all-on, all-not, all-end}
 use Rattle.model.specs.Lists.{all}
-use lib.ListN.{length, take, drop, getD}
+use lib.ListN.{take, drop, getD}
 use lib.Dec.{eqb}
 use mathlib.Core.Path.{_≡_, refl}
 use native.Mathlib.Omega.{arith}
-use Prim.Native.Nat.{ℕ, _+_, _-_, _*_, _≤_, _<_}
+use Prim.Native.Nat.{_-_, _≤_}
 use borrow.Author.Needs.{needs}
 use Rattle.partition.proofs.all_same.Statement.{statement}
 use Rattle.partition.proofs.all_same.Tie as tie
@@ -16,46 +16,28 @@ Inv-loop found k first j₀ j = (j ≤ k) × (all (eqb (getD found 0 0)) (drop j
 
 abbrev μ-loop : tie.MeasureT-loop
 μ-loop found k first j₀ j = k - j
-
--- src/lib.rt:200:17
 shared-slice-read-first : tie.Need-shared-slice-read-first Inv-loop μ-loop
 shared-slice-read-first c = search needs
-
--- src/lib.rt:202:5
 loop-holds : tie.Need-loop-holds Inv-loop μ-loop
 loop-holds c = (omega arith, refl)
-
--- src/lib.rt:203:21
 mul-if1 : tie.Need-mul-if1 Inv-loop μ-loop
 mul-if1 c = search needs
-
--- src/lib.rt:203:21
 shared-slice-read-if1 : tie.Need-shared-slice-read-if1 Inv-loop μ-loop
 shared-slice-read-if1 c = search needs
-
--- src/lib.rt:204:13
 add-j : tie.Need-add-j Inv-loop μ-loop
 add-j c = search needs
-
--- src/lib.rt:202:5
 loop-less : tie.Need-loop-less Inv-loop μ-loop
 loop-less c = search needs
-
--- src/lib.rt:202:5
 loop-again : tie.Need-loop-again Inv-loop μ-loop
 loop-again c =
     let s = c .before .before .before .before .before in
     let a = s .args in
     (omega arith, all-on (a .found .now) (a .k) (c .before .before .before .loop .j) (getD (a .found .now) 0 0) (omega arith) (s .pre .1) _ (c .before .before .before .loop .inv .1) (c .if1 .taken))
-
--- src/lib.rt:206:13
 returns : tie.Need-returns Inv-loop μ-loop
 returns c =
     let s = c .before .before .before .before .before in
     let a = s .args in
     all-not (a .found .now) (a .k) (c .before .before .before .loop .j) (getD (a .found .now) 0 0) (omega arith) (s .pre .1) _ (c .before .before .before .loop .inv .1) (c .if1 .left)
-
--- src/lib.rt:196:1
 returns-2 : tie.Need-returns-2 Inv-loop μ-loop
 returns-2 c =
     let s = c .before .before .before in

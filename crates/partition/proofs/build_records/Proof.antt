@@ -1,13 +1,11 @@
 use Rattle.partition.specs.RecordLaws.{turn-asks, turn-done, all-done}
 use Rattle.partition.specs.HeldLaws.{groups-none}
 use Rattle.partition.specs.Held.{HeldTable, HeldGroups}
-use Rattle.model.specs.Groups.{Ids, Group, records}
-use lib.Seq.{take-all}
+use Rattle.model.specs.Groups.{Ids, records}
 use lib.ListN.{length, take}
-use mathlib.Core.List.{List}
-use mathlib.Core.Path.{_≡_, refl, sym, ap, _∙_, subst}
+use mathlib.Core.Path.{_≡_, refl}
 use native.Mathlib.Omega.{arith}
-use Prim.Native.Nat.{ℕ, _+_, _-_, _*_, _≤_, _<_}
+use Prim.Native.Nat.{_-_, _*_, _≤_}
 use borrow.Author.Needs.{needs}
 use Rattle.partition.proofs.build_records.Statement.{statement}
 use Rattle.partition.proofs.build_records.Tie as tie
@@ -23,63 +21,41 @@ Inv-loop ids n groups₀ k₀ i₀ groups k i =
 
 abbrev μ-loop : tie.MeasureT-loop
 μ-loop ids n groups₀ k₀ i₀ groups k i = n - i
-
--- src/lib.rt:70:5
 loop-holds : tie.Need-loop-holds Inv-loop μ-loop
 loop-holds c = let s = c .before .before in (omega arith, refl, s .pre .1 .fits, s .pre .3, λ t h. groups-none (s .args .groups .now) (s .pre .2))
-
--- src/lib.rt:71:48
 mul-cell-at : tie.Need-mul-cell-at Inv-loop μ-loop
 mul-cell-at c = search needs
-
--- src/lib.rt:71:35
 cell-at-requires : tie.Need-cell-at-requires Inv-loop μ-loop
 cell-at-requires c κs = search needs
-
--- src/lib.rt:71:60
 mul-count-cell : tie.Need-mul-count-cell Inv-loop μ-loop
 mul-count-cell c = search needs
-
--- src/lib.rt:71:60
 add-count-cell : tie.Need-add-count-cell Inv-loop μ-loop
 add-count-cell c = search needs
-
--- src/lib.rt:71:56
 mul-count-cell-2 : tie.Need-mul-count-cell-2 Inv-loop μ-loop
 mul-count-cell-2 c = search needs
-
--- src/lib.rt:71:56
 shared-slice-read-count-cell : tie.Need-shared-slice-read-count-cell Inv-loop μ-loop
 shared-slice-read-count-cell c = search needs
-
--- src/lib.rt:71:9
 count-cell-requires : tie.Need-count-cell-requires Inv-loop μ-loop
 count-cell-requires c κs =
     let s = c .before .before .before .before .before .before .before in
     let v = c .before .before .before .before .loop .inv in
     turn-asks (s .args .ids .now) (c .before .before .before .before .loop .groups) (s .args .n) (c .before .before .before .before .loop .k) (c .before .before .before .before .loop .i) (s .pre .0) (s .pre .1) (v .4 (s .pre .0) (s .pre .1)) (omega arith) (omega arith) (omega arith)
-
--- src/lib.rt:72:9
 add-i : tie.Need-add-i Inv-loop μ-loop
 add-i c = search needs
-
--- src/lib.rt:70:5
 loop-less : tie.Need-loop-less Inv-loop μ-loop
 loop-less c = search needs
-
--- src/lib.rt:70:5
 loop-again : tie.Need-loop-again Inv-loop μ-loop
 loop-again c =
     let s = c .before .before .before .before .before .before .before .before .before .before in
-    let v = c .before .before .before .before .before .before .before .loop .inv in
-    (omega arith, omega arith, omega arith, omega arith,
-    λ t h. turn-done (s .args .ids .now) (c .before .before .before .before .before .before .before .loop .groups) (s .args .n) (c .before .before .before .before .before .before .before .loop .k) (c .before .before .before .before .before .before .before .loop .i) t h (v .4 t h) (omega arith) (omega arith) _ _ _ (c .before .before .before .before .cell-at .ensures) (c .before .before .count-cell .ensures))
-
--- src/lib.rt:64:1
+    let v = c .before .before .before .before .before .before .before .loop .inv in (
+      omega arith,
+      omega arith,
+      omega arith,
+      omega arith,
+      λ t h. turn-done (s .args .ids .now) (c .before .before .before .before .before .before .before .loop .groups) (s .args .n) (c .before .before .before .before .before .before .before .loop .k) (c .before .before .before .before .before .before .before .loop .i) t h (v .4 t h) (omega arith) (omega arith) _ _ _ (c .before .before .before .before .cell-at .ensures) (c .before .before .count-cell .ensures),
+    )
 same-length : tie.Need-same-length Inv-loop μ-loop
 same-length c = search needs
-
--- src/lib.rt:64:1
 returns : tie.Need-returns Inv-loop μ-loop
 returns c = let s = c .before .before .before .before in λ t h. all-done (s .args .ids .now) _ (s .args .n) _ (c .before .loop .i) t h (c .before .loop .inv .4 t h) (omega arith)
 

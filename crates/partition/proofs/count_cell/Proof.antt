@@ -1,15 +1,11 @@
-use Rattle.partition.specs.HeldLaws.{groups-table, groupTail, group-row, group-few, group-grown, group-first, count-asks, count-done}
-use Rattle.partition.specs.Held.{HeldGroups, grown, grownWords}
+use Rattle.partition.specs.HeldLaws.{groups-table, group-row, group-few, group-grown, group-first, count-asks, count-done}
 use Rattle.table.specs.declared.Place.the-variants.{Found, Missing}
 use Rattle.table.specs.declared.Place.{Place}
 use Rattle.table.specs.Rows.{number, tableOf, placeOf}
-use Rattle.model.specs.Groups.{Group}
-use Rattle.model.specs.Lists.{keys, get}
+use Rattle.model.specs.Lists.{keys}
 use lib.ListN.{length}
-use lib.Dec.{ltb, eqb}
-use mathlib.Core.List.{List, [], _∷_}
-use mathlib.Core.Path.{_≡_, sym, _∙_, refl}
-use native.Mathlib.Omega.{arith}
+use lib.Dec.{ltb}
+use mathlib.Core.Path.{_≡_, sym, _∙_}
 use Prim.Native.Nat.{ℕ, _+_, _*_, _≤_, _<_}
 use borrow.Author.Needs.{needs}
 use Rattle.partition.proofs.count_cell.Statement.{statement}
@@ -39,57 +35,32 @@ is-missing c = sym (c .enum-told .given .1) ∙ c .before .before .find1 .ensure
 
 row : (c : tie.After-known-told) → let s = c .before .before .before .before .before .before in (found c < s .args .k) × (9 * found c + 9 ≤ length (s .args .groups .now))
 row c = let s = c .before .before .before .before .before .before in group-row (s .args .groups .now) (s .args .k) (s .pre .0) (s .pre .1) (s .args .g) (found c) (is-found c)
--- ENDDEFS
 
--- src/lib.rt:50:9
+-- ENDDEFS
 find1-requires : tie.Need-find1-requires
 find1-requires c κs = let s = c .before .before in groups-table (s .args .groups .now) (s .args .k) (s .pre .0) (s .pre .1)
-
--- src/lib.rt:52:22
 enum-known-p : tie.Need-enum-known-p
 enum-known-p c = search needs
-
--- src/lib.rt:53:41
 mul-grown-row : tie.Need-mul-grown-row
 mul-grown-row c = let r = row (c .before) in search needs
-
--- src/lib.rt:53:23
 grown-row-requires : tie.Need-grown-row-requires
 grown-row-requires c κs = let s = c .before .before .before .before .before .before .before in (row (c .before) .1, group-few (s .args .groups .now) (s .args .k) (s .pre .0) (s .pre .1) (s .args .g) (found (c .before)) (is-found (c .before)) (s .pre .2))
-
--- src/lib.rt:54:29
 slice-aggregate-put1 : tie.Need-slice-aggregate-put1
 slice-aggregate-put1 c = search needs
-
--- src/lib.rt:54:13
 put1-requires : tie.Need-put1-requires
 put1-requires c κs = let s = c .before .before .before .before .before .before .before .before .before .before in count-asks (s .args .groups .now) (s .args .k) (s .pre .0) (s .pre .1) (s .args .g) (s .args .c) _ (c .before .before .grown-row .ensures ∙ group-grown (s .args .groups .now) (s .args .k) (s .pre .0) (s .pre .1) (s .args .g) (found (c .before .before .before .before)) (is-found (c .before .before .before .before)) (s .args .c)) (s .pre .3)
-
--- src/lib.rt:57:17
 enum-told : tie.Need-enum-told
 enum-told c = search needs
-
--- src/lib.rt:58:29
 slice-aggregate-put1-2 : tie.Need-slice-aggregate-put1-2
 slice-aggregate-put1-2 c = search needs
-
--- src/lib.rt:58:13
 put1-requires-2 : tie.Need-put1-requires-2
 put1-requires-2 c κs = let s = c .before .before .before .before .before .before .before in count-asks (s .args .groups .now) (s .args .k) (s .pre .0) (s .pre .1) (s .args .g) (s .args .c) _ (group-first (s .args .groups .now) (s .args .k) (s .pre .0) (s .pre .1) (s .args .g) (missing (c .before .before)) (s .args .c) (is-missing (c .before .before))) (s .pre .3)
-
--- src/lib.rt:46:1
 same-length : tie.Need-same-length
 same-length c = search needs
-
--- src/lib.rt:46:1
 returns : tie.Need-returns
 returns c = let s = c .before .before .before .before .before .before .before .before .before .before .before .before .before in λ l h. count-done (s .args .groups .now) (s .args .k) l h (s .args .g) (s .args .c) _ (c .before .before .before .before .before .grown-row .ensures ∙ group-grown (s .args .groups .now) (s .args .k) l h (s .args .g) (found (c .before .before .before .before .before .before .before)) (is-found (c .before .before .before .before .before .before .before)) (s .args .c)) (s .pre .3) _ _ (c .before .before .put1 .ensures)
-
--- src/lib.rt:46:1
 same-length-2 : tie.Need-same-length-2
 same-length-2 c = search needs
-
--- src/lib.rt:46:1
 returns-2 : tie.Need-returns-2
 returns-2 c = let s = c .before .before .before .before .before .before .before .before .before .before in λ l h. count-done (s .args .groups .now) (s .args .k) l h (s .args .g) (s .args .c) _ (group-first (s .args .groups .now) (s .args .k) l h (s .args .g) (missing (c .before .before .before .before .before)) (s .args .c) (is-missing (c .before .before .before .before .before))) (s .pre .3) _ _ (c .before .before .put12 .ensures)
 

@@ -2,15 +2,11 @@ use Rattle.partition.specs.FoundLaws.{found-none, found-more, found-same
 use Rattle.partition.specs.IdLaws.{row-found, row-missing}
 use Rattle.partition.specs.HeldLaws.{ids-table}
 use Rattle.partition.specs.Held.{HeldRows, tried, idsAt}
-use Rattle.table.specs.declared.Place.the-variants.{Found, Missing}
-use Rattle.table.specs.declared.Place.{Place}
-use Rattle.table.specs.Rows.{cell, tableOf, placeOf}
 use Rattle.model.specs.Groups.{Ids}
-use Rattle.model.specs.Cells.{Cell, same, below}
-use Rattle.model.specs.Lists.{keys, get}
+use Rattle.model.specs.Cells.{same}
+use Rattle.model.specs.Lists.{get}
 use lib.ListN.{length, take, getD, length-set}
-use mathlib.Core.Option.{none, some}
-use mathlib.Core.List.{List}
+use mathlib.Core.Option.{some}
 use mathlib.Core.Path.{_≡_, refl, sym, ap, _∙_}
 use native.Mathlib.Omega.{arith}
 use Prim.Native.Nat.{ℕ, _+_, _-_, _*_, _≤_, _<_}
@@ -38,98 +34,65 @@ is-found c t h = row-found (c .before .before .before .before .before .before .b
 
 within : (c : tie.After-known-told Inv-loop μ-loop) → (at c < c .before .before .before .before .before .before .before .before .before .args .n) × (5 * c .before .before .before .before .before .before .before .before .before .args .n ≤ length (c .before .before .before .before .before .before .before .before .before .args .ids .now))
 within c = let s = c .before .before .before .before .before .before .before .before .before in (is-found c (s .pre .0) (s .pre .1) .0, s .pre .1 .fits)
--- ENDDEFS
 
--- src/lib.rt:86:5
+-- ENDDEFS
 loop-holds : tie.Need-loop-holds Inv-loop μ-loop
 loop-holds c = let s = c .before .before in (omega arith, omega arith, refl, s .pre .3, λ t h. found-none t (s .args .c) (s .args .found .now))
-
--- src/lib.rt:87:50
 add-neighbour-of : tie.Need-add-neighbour-of Inv-loop μ-loop
 add-neighbour-of c = search needs
-
--- src/lib.rt:87:34
 neighbour-of-requires : tie.Need-neighbour-of-requires Inv-loop μ-loop
 neighbour-of-requires c κs = search needs
-
--- src/lib.rt:87:13
 find4-requires : tie.Need-find4-requires Inv-loop μ-loop
 find4-requires c κs = let s = c .before .before .before .before .before in ids-table (s .args .ids .now) (s .args .n) (s .pre .0) (s .pre .1)
-
--- src/lib.rt:89:26
 enum-known-p : tie.Need-enum-known-p Inv-loop μ-loop
 enum-known-p c = search needs
-
--- src/lib.rt:90:32
 mul-found : tie.Need-mul-found Inv-loop μ-loop
 mul-found c = let w = within c in search needs
-
--- src/lib.rt:90:32
 add-found : tie.Need-add-found Inv-loop μ-loop
 add-found c = let w = within c in search needs
-
--- src/lib.rt:90:28
 mul-found-2 : tie.Need-mul-found-2 Inv-loop μ-loop
 mul-found-2 c = let w = within c in search needs
-
--- src/lib.rt:90:28
 shared-slice-read-found : tie.Need-shared-slice-read-found Inv-loop μ-loop
 shared-slice-read-found c = let w = within (c .before) in search needs
-
--- src/lib.rt:90:17
 mul-found-3 : tie.Need-mul-found-3 Inv-loop μ-loop
 mul-found-3 c = search needs
-
--- src/lib.rt:90:17
 slice-write-found : tie.Need-slice-write-found Inv-loop μ-loop
 slice-write-found c = search needs
-
--- src/lib.rt:91:17
 add-m : tie.Need-add-m Inv-loop μ-loop
 add-m c = search needs
-
--- src/lib.rt:92:17
 add-k : tie.Need-add-k Inv-loop μ-loop
 add-k c = search needs
-
--- src/lib.rt:86:5
 loop-less : tie.Need-loop-less Inv-loop μ-loop
 loop-less c = search needs
-
--- src/lib.rt:86:5
 loop-again : tie.Need-loop-again Inv-loop μ-loop
 loop-again c =
     let s = c .before .before .before .before .before .before .before .before .before .before in
-    let v = c .before .before .before .before .before .before .before .loop .inv in
-    (omega arith, omega arith, simp length-set (v .2), v .3,
-    λ t h. found-more t (s .args .c) (c .before .before .before .before .before .before .before .loop .k) (c .before .before .before .before .before .before .before .loop .m) (c .before .before .before .before .before .before .before .loop .found) (v .4 t h) (getD (s .args .ids .now) (5 * at (c .before) + 4) 0) (c .before .before .before .before .before .neighbour-of .result) (omega arith) (c .before .before .before .before .before .neighbour-of .ensures) (is-found (c .before) t h .1))
-
--- src/lib.rt:95:17
+    let v = c .before .before .before .before .before .before .before .loop .inv in (
+      omega arith,
+      omega arith,
+      simp length-set (v .2),
+      v .3,
+      λ t h. found-more t (s .args .c) (c .before .before .before .before .before .before .before .loop .k) (c .before .before .before .before .before .before .before .loop .m) (c .before .before .before .before .before .before .before .loop .found) (v .4 t h) (getD (s .args .ids .now) (5 * at (c .before) + 4) 0) (c .before .before .before .before .before .neighbour-of .result) (omega arith) (c .before .before .before .before .before .neighbour-of .ensures) (is-found (c .before) t h .1),
+    )
 enum-told : tie.Need-enum-told Inv-loop μ-loop
 enum-told c = search needs
-
--- src/lib.rt:95:17
 add-k-2 : tie.Need-add-k-2 Inv-loop μ-loop
 add-k-2 c = search needs
-
--- src/lib.rt:86:5
 loop-less-2 : tie.Need-loop-less-2 Inv-loop μ-loop
 loop-less-2 c = search needs
-
--- src/lib.rt:86:5
 loop-again-2 : tie.Need-loop-again-2 Inv-loop μ-loop
 loop-again-2 c =
     let s = c .before .before .before .before .before .before .before .before in
-    let v = c .before .before .before .before .before .loop .inv in
-    (omega arith, omega arith, v .2, v .3,
-    λ t h. found-same t (s .args .c) (c .before .before .before .before .before .loop .k) (c .before .before .before .before .before .loop .m) (c .before .before .before .before .before .loop .found) (v .4 t h) (c .before .before .before .neighbour-of .result) (c .before .before .before .neighbour-of .ensures)
-    (row-missing (s .args .ids .now) (s .args .n) t h (c .before .before .before .neighbour-of .result) (c .enum-told .given .0 .0) (sym (c .enum-told .given .1) ∙ c .before .before .find4 .ensures)))
-
--- src/lib.rt:80:1
+    let v = c .before .before .before .before .before .loop .inv in (
+      omega arith,
+      omega arith,
+      v .2,
+      v .3,
+      λ t h. found-same t (s .args .c) (c .before .before .before .before .before .loop .k) (c .before .before .before .before .before .loop .m) (c .before .before .before .before .before .loop .found) (v .4 t h) (c .before .before .before .neighbour-of .result) (c .before .before .before .neighbour-of .ensures)
+          (row-missing (s .args .ids .now) (s .args .n) t h (c .before .before .before .neighbour-of .result) (c .enum-told .given .0 .0) (sym (c .enum-told .given .1) ∙ c .before .before .find4 .ensures)),
+    )
 same-length : tie.Need-same-length Inv-loop μ-loop
 same-length c = search needs
-
--- src/lib.rt:80:1
 returns : tie.Need-returns Inv-loop μ-loop
 returns c =
     let s = c .before .before .before .before in

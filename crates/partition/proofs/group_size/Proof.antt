@@ -1,10 +1,10 @@
 use Rattle.partition.specs.JoinLaws.{size-more, size-same, size-all}
 use Rattle.partition.specs.Held.{HeldRows}
 use Rattle.model.specs.Groups.{Ids, size}
-use lib.ListN.{length, take}
-use mathlib.Core.Path.{_≡_, refl, sym, ap, _∙_}
+use lib.ListN.{take}
+use mathlib.Core.Path.{_≡_, refl}
 use native.Mathlib.Omega.{arith}
-use Prim.Native.Nat.{ℕ, _+_, _-_, _*_, _≤_, _<_}
+use Prim.Native.Nat.{_-_, _≤_}
 use borrow.Author.Needs.{needs}
 use Rattle.partition.proofs.group_size.Statement.{statement}
 use Rattle.partition.proofs.group_size.Tie as tie
@@ -16,56 +16,30 @@ Inv-loop ids n g m₀ i₀ m i = (i ≤ n) × (m ≤ i) × ((t : Ids) → HeldRo
 
 abbrev μ-loop : tie.MeasureT-loop
 μ-loop ids n g m₀ i₀ m i = n - i
-
--- src/lib.rt:109:5
 loop-holds : tie.Need-loop-holds Inv-loop μ-loop
 loop-holds c = (omega arith, omega arith, λ t h. refl)
-
--- src/lib.rt:110:16
 mul-if1 : tie.Need-mul-if1 Inv-loop μ-loop
 mul-if1 c = search needs
-
--- src/lib.rt:110:16
 add-if1 : tie.Need-add-if1 Inv-loop μ-loop
 add-if1 c = search needs
-
--- src/lib.rt:110:12
 mul-if1-2 : tie.Need-mul-if1-2 Inv-loop μ-loop
 mul-if1-2 c = search needs
-
--- src/lib.rt:110:12
 shared-slice-read-if1 : tie.Need-shared-slice-read-if1 Inv-loop μ-loop
 shared-slice-read-if1 c = search needs
-
--- src/lib.rt:111:13
 add-m : tie.Need-add-m Inv-loop μ-loop
 add-m c = search needs
-
--- src/lib.rt:112:13
 add-i : tie.Need-add-i Inv-loop μ-loop
 add-i c = search needs
-
--- src/lib.rt:109:5
 loop-less : tie.Need-loop-less Inv-loop μ-loop
 loop-less c = search needs
-
--- src/lib.rt:109:5
 loop-again : tie.Need-loop-again Inv-loop μ-loop
 loop-again c = let s = c .before .before .before .before in (omega arith, omega arith, λ t h. size-more (s .args .ids .now) (s .args .n) t h (s .args .g) (c .before .before .before .loop .i) (omega arith) (c .before .before .before .loop .m) (c .before .before .before .loop .inv .2 t h) (c .if1 .taken))
-
--- src/lib.rt:114:13
 add-i-2 : tie.Need-add-i-2 Inv-loop μ-loop
 add-i-2 c = search needs
-
--- src/lib.rt:109:5
 loop-less-2 : tie.Need-loop-less-2 Inv-loop μ-loop
 loop-less-2 c = search needs
-
--- src/lib.rt:109:5
 loop-again-2 : tie.Need-loop-again-2 Inv-loop μ-loop
 loop-again-2 c = let s = c .before .before .before .before in (omega arith, omega arith, λ t h. size-same (s .args .ids .now) (s .args .n) t h (s .args .g) (c .before .before .before .loop .i) (omega arith) (c .before .before .before .loop .m) (c .before .before .before .loop .inv .2 t h) (c .if1 .left))
-
--- src/lib.rt:103:1
 returns : tie.Need-returns Inv-loop μ-loop
 returns c = let s = c .before .before in λ t h. size-all (s .args .ids .now) (s .args .n) t h (s .args .g) (c .before .loop .i) _ (omega arith) (c .before .loop .inv .2 t h)
 

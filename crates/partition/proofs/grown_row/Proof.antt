@@ -8,140 +8,72 @@ use Rattle.partition.proofs.grown_row.Reads as reads
 use Rattle.partition.proofs.grown_row.Lts as lts
 use Rattle.partition.proofs.greater.Reads as greater-reads
 use Rattle.partition.proofs.lesser.Reads as lesser-reads
-
--- src/lib.rt:33:9
 mul-t4 : tie.Need-mul-t4
 mul-t4 c = search needs
-
--- src/lib.rt:33:9
 shared-slice-read-t6 : tie.Need-shared-slice-read-t6
 shared-slice-read-t6 c = search needs
-
--- src/lib.rt:34:16
 add-t7 : tie.Need-add-t7
 add-t7 c = search needs
-
--- src/lib.rt:34:9
 mul-t8 : tie.Need-mul-t8
 mul-t8 c = search needs
-
--- src/lib.rt:34:9
 shared-slice-read-t10 : tie.Need-shared-slice-read-t10
 shared-slice-read-t10 c = search needs
-
--- src/lib.rt:35:16
 add-t11 : tie.Need-add-t11
 add-t11 c = search needs
-
--- src/lib.rt:35:9
 mul-t12 : tie.Need-mul-t12
 mul-t12 c = search needs
-
--- src/lib.rt:35:9
 shared-slice-read-t14 : tie.Need-shared-slice-read-t14
 shared-slice-read-t14 c = search needs
-
--- src/lib.rt:35:9
 add-t15 : tie.Need-add-t15
 add-t15 c = search needs
-
--- src/lib.rt:36:23
 add-lesser : tie.Need-add-lesser
 add-lesser c = search needs
-
--- src/lib.rt:36:16
 mul-lesser : tie.Need-mul-lesser
 mul-lesser c = search needs
-
--- src/lib.rt:36:16
 shared-slice-read-lesser : tie.Need-shared-slice-read-lesser
 shared-slice-read-lesser c = search needs
-
--- src/lib.rt:36:9
 lesser-requires : tie.Need-lesser-requires
 lesser-requires c κs = search needs
-
--- src/lib.rt:37:23
 add-lesser-2 : tie.Need-add-lesser-2
 add-lesser-2 c = search needs
-
--- src/lib.rt:37:16
 mul-lesser-2 : tie.Need-mul-lesser-2
 mul-lesser-2 c = search needs
-
--- src/lib.rt:37:16
 shared-slice-read-lesser-2 : tie.Need-shared-slice-read-lesser-2
 shared-slice-read-lesser-2 c = search needs
-
--- src/lib.rt:37:9
 lesser-requires-2 : tie.Need-lesser-requires-2
 lesser-requires-2 c κs = search needs
-
--- src/lib.rt:38:23
 add-lesser-3 : tie.Need-add-lesser-3
 add-lesser-3 c = search needs
-
--- src/lib.rt:38:16
 mul-lesser-3 : tie.Need-mul-lesser-3
 mul-lesser-3 c = search needs
-
--- src/lib.rt:38:16
 shared-slice-read-lesser-3 : tie.Need-shared-slice-read-lesser-3
 shared-slice-read-lesser-3 c = search needs
-
--- src/lib.rt:38:9
 lesser-requires-3 : tie.Need-lesser-requires-3
 lesser-requires-3 c κs = search needs
-
--- src/lib.rt:39:24
 add-greater : tie.Need-add-greater
 add-greater c = search needs
-
--- src/lib.rt:39:17
 mul-greater : tie.Need-mul-greater
 mul-greater c = search needs
-
--- src/lib.rt:39:17
 shared-slice-read-greater : tie.Need-shared-slice-read-greater
 shared-slice-read-greater c = search needs
-
--- src/lib.rt:39:9
 greater-requires : tie.Need-greater-requires
 greater-requires c κs = search needs
-
--- src/lib.rt:40:24
 add-greater-2 : tie.Need-add-greater-2
 add-greater-2 c = search needs
-
--- src/lib.rt:40:17
 mul-greater-2 : tie.Need-mul-greater-2
 mul-greater-2 c = search needs
-
--- src/lib.rt:40:17
 shared-slice-read-greater-2 : tie.Need-shared-slice-read-greater-2
 shared-slice-read-greater-2 c = search needs
-
--- src/lib.rt:40:9
 greater-requires-2 : tie.Need-greater-requires-2
 greater-requires-2 c κs = search needs
-
--- src/lib.rt:41:24
 add-greater-3 : tie.Need-add-greater-3
 add-greater-3 c = search needs
-
--- src/lib.rt:41:17
 mul-greater-3 : tie.Need-mul-greater-3
 mul-greater-3 c = search needs
-
--- src/lib.rt:41:17
 shared-slice-read-greater-3 : tie.Need-shared-slice-read-greater-3
 shared-slice-read-greater-3 c = search needs
-
--- src/lib.rt:41:9
 greater-requires-3 : tie.Need-greater-requires-3
 greater-requires-3 c κs = search needs
-
--- src/lib.rt:28:1
 returns : tie.Need-returns
 returns c =
     let a = c .before .before .before .before .before .before .before .before .before .before .before .before .before .before .before .before .args in

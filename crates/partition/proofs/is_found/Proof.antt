@@ -1,11 +1,10 @@
 use Rattle.partition.specs.JoinLaws.{has-here, has-on, has-end}
 use Rattle.model.specs.Lists.{has}
 use lib.Dec.{eqb}
-use lib.ListN.{length, take, drop}
-use mathlib.Core.Bool.{true, false}
-use mathlib.Core.Path.{_≡_, refl, sym, ap, _∙_}
+use lib.ListN.{take, drop}
+use mathlib.Core.Path.{_≡_, refl}
 use native.Mathlib.Omega.{arith}
-use Prim.Native.Nat.{ℕ, _+_, _-_, _*_, _≤_, _<_}
+use Prim.Native.Nat.{_-_, _≤_}
 use borrow.Author.Needs.{needs}
 use Rattle.partition.proofs.is_found.Statement.{statement}
 use Rattle.partition.proofs.is_found.Tie as tie
@@ -17,36 +16,20 @@ Inv-loop found k g j₀ j = (j ≤ k) × (has eqb (drop j (take k found)) g ≡ 
 
 abbrev μ-loop : tie.MeasureT-loop
 μ-loop found k g j₀ j = k - j
-
--- src/lib.rt:146:5
 loop-holds : tie.Need-loop-holds Inv-loop μ-loop
 loop-holds c = (omega arith, refl)
-
--- src/lib.rt:147:17
 mul-if1 : tie.Need-mul-if1 Inv-loop μ-loop
 mul-if1 c = search needs
-
--- src/lib.rt:147:17
 shared-slice-read-if1 : tie.Need-shared-slice-read-if1 Inv-loop μ-loop
 shared-slice-read-if1 c = search needs
-
--- src/lib.rt:148:13
 returns : tie.Need-returns Inv-loop μ-loop
 returns c = let a = c .before .before .before .before .args in has-here (a .found .now) (a .k) (c .before .before .before .loop .j) (a .g) (omega arith) (c .before .before .before .before .pre) _ (c .before .before .before .loop .inv .1) (c .if1 .taken)
-
--- src/lib.rt:150:9
 add-j : tie.Need-add-j Inv-loop μ-loop
 add-j c = search needs
-
--- src/lib.rt:146:5
 loop-less : tie.Need-loop-less Inv-loop μ-loop
 loop-less c = search needs
-
--- src/lib.rt:146:5
 loop-again : tie.Need-loop-again Inv-loop μ-loop
 loop-again c = let a = c .before .before .before .before .args in (omega arith, has-on (a .found .now) (a .k) (c .before .before .before .loop .j) (a .g) (omega arith) (c .before .before .before .before .pre) _ (c .before .before .before .loop .inv .1) (c .if1 .left))
-
--- src/lib.rt:141:1
 returns-2 : tie.Need-returns-2 Inv-loop μ-loop
 returns-2 c = let a = c .before .before .args in has-end (a .found .now) (a .k) (c .before .loop .j) (a .g) _ (omega arith) (c .before .before .pre) (c .before .loop .inv .1)
 

@@ -1,7 +1,6 @@
 use Rattle.partition.specs.JoinLaws.{join-same, join-done}
-use Rattle.partition.specs.Held.{HeldRows}
-use mathlib.Core.Path.{_≡_, sym, _∙_}
-use Prim.Native.Nat.{ℕ, _+_, _-_, _*_, _≤_, _<_}
+use mathlib.Core.Path.{sym, _∙_}
+use Prim.Native.Nat.{_-_}
 use borrow.Author.Needs.{needs}
 use Rattle.partition.proofs.join.Statement.{statement}
 use Rattle.partition.proofs.join.Tie as tie
@@ -11,44 +10,26 @@ use Rattle.partition.proofs.all_same.Reads as all-same-reads
 use Rattle.partition.proofs.largest.Reads as largest-reads
 use Rattle.partition.proofs.merge.Reads as merge-reads
 use Rattle.partition.proofs.push.Reads as push-reads
-
--- src/lib.rt:217:29
 shared-slice-read-push : tie.Need-shared-slice-read-push
 shared-slice-read-push c = search needs
-
--- src/lib.rt:217:9
 push-requires : tie.Need-push-requires
 push-requires c κs = let s = c .before .before .before .before in (s .pre .0, s .pre .1, s .pre .2, s .pre .3)
-
--- src/lib.rt:218:8
 all-same-requires : tie.Need-all-same-requires
 all-same-requires c κs = let s = c .before .before .before .before .before .before .before in (s .pre .4, s .pre .5)
-
--- src/lib.rt:219:9
 same-length : tie.Need-same-length
 same-length c = search needs
-
--- src/lib.rt:219:9
 returns : tie.Need-returns
 returns c =
     let s = c .before .before .before .before .before .before .before .before .before in
     let a = s .args in
     let p = c .before .before .before .before .push .ensures in
     (p .0, λ t h. join-same t (a .c) (a .found .now) (a .k) (s .pre .4) (sym (c .before .all-same .ensures) ∙ c .if1 .taken) _ _ (p .1 t h))
-
--- src/lib.rt:221:9
 largest-requires : tie.Need-largest-requires
 largest-requires c κs = search needs
-
--- src/lib.rt:222:5
 merge-requires : tie.Need-merge-requires
 merge-requires c κs = search needs
-
--- src/lib.rt:213:1
 same-length-2 : tie.Need-same-length-2
 same-length-2 c = search needs
-
--- src/lib.rt:213:1
 returns-2 : tie.Need-returns-2
 returns-2 c =
     let s = c .before .before .before .before .before .before .before .before .before .before .before .before .before .before .before in

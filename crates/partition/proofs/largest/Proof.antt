@@ -1,10 +1,10 @@
 use Rattle.partition.specs.JoinLaws.{largest-new, largest-old, largest-end}
 use Rattle.partition.specs.Held.{HeldRows}
-use Rattle.model.specs.Groups.{Ids, size, largestGroup}
-use lib.ListN.{length, take, drop, getD}
-use mathlib.Core.Path.{_≡_, refl, sym, ap, _∙_}
+use Rattle.model.specs.Groups.{Ids, largestGroup}
+use lib.ListN.{take, drop, getD}
+use mathlib.Core.Path.{_≡_, refl}
 use native.Mathlib.Omega.{arith}
-use Prim.Native.Nat.{ℕ, _+_, _-_, _*_, _≤_, _<_}
+use Prim.Native.Nat.{_-_, _≤_}
 use borrow.Author.Needs.{needs}
 use Rattle.partition.proofs.largest.Statement.{statement}
 use Rattle.partition.proofs.largest.Tie as tie
@@ -17,74 +17,50 @@ Inv-loop ids n found k best₀ j₀ best j = (1 ≤ j) × (j ≤ k) × ((t : Ids
 
 abbrev μ-loop : tie.MeasureT-loop
 μ-loop ids n found k best₀ j₀ best j = k - j
-
--- src/lib.rt:125:20
 shared-slice-read-best : tie.Need-shared-slice-read-best Inv-loop μ-loop
 shared-slice-read-best c = search needs
-
--- src/lib.rt:127:5
 loop-holds : tie.Need-loop-holds Inv-loop μ-loop
 loop-holds c = let s = c .before .before .before in (omega arith, s .pre .1, λ t h. refl)
-
--- src/lib.rt:128:13
 group-size-requires : tie.Need-group-size-requires Inv-loop μ-loop
 group-size-requires c κs = c .before .before .before .before .before .pre .0
-
--- src/lib.rt:129:36
 mul-group-size : tie.Need-mul-group-size Inv-loop μ-loop
 mul-group-size c = search needs
-
--- src/lib.rt:129:36
 shared-slice-read-group-size : tie.Need-shared-slice-read-group-size Inv-loop μ-loop
 shared-slice-read-group-size c = search needs
-
--- src/lib.rt:129:13
 group-size-requires-2 : tie.Need-group-size-requires-2 Inv-loop μ-loop
 group-size-requires-2 c κs = c .before .before .before .before .before .before .before .pre .0
-
--- src/lib.rt:131:20
 mul-best : tie.Need-mul-best Inv-loop μ-loop
 mul-best c = search needs
-
--- src/lib.rt:131:20
 shared-slice-read-best-2 : tie.Need-shared-slice-read-best-2 Inv-loop μ-loop
 shared-slice-read-best-2 c = search needs
-
--- src/lib.rt:132:13
 add-j : tie.Need-add-j Inv-loop μ-loop
 add-j c = search needs
-
--- src/lib.rt:127:5
 loop-less : tie.Need-loop-less Inv-loop μ-loop
 loop-less c = search needs
-
--- src/lib.rt:127:5
 loop-again : tie.Need-loop-again Inv-loop μ-loop
 loop-again c =
-    let s = c .before .before .before .before .before .before .before .before .before .before in
-    (omega arith, omega arith, λ t h.
-      let a = c .before .before .before .before .group-size .ensures t h in
-      let b = c .before .before .group-size2 .ensures t h in
-      largest-new t (s .args .found .now) (s .args .k) (c .before .before .before .before .before .before .loop .j) (c .before .before .before .before .before .before .loop .best) (omega arith) (s .pre .2) _ (c .before .before .before .before .before .before .loop .inv .2 t h) (omega (arith, c .before .if1 .taken)))
-
--- src/lib.rt:134:13
+    let s = c .before .before .before .before .before .before .before .before .before .before in (
+      omega arith,
+      omega arith,
+      λ t h.
+          let a = c .before .before .before .before .group-size .ensures t h in
+          let b = c .before .before .group-size2 .ensures t h in
+          largest-new t (s .args .found .now) (s .args .k) (c .before .before .before .before .before .before .loop .j) (c .before .before .before .before .before .before .loop .best) (omega arith) (s .pre .2) _ (c .before .before .before .before .before .before .loop .inv .2 t h) (omega (arith, c .before .if1 .taken)),
+    )
 add-j-2 : tie.Need-add-j-2 Inv-loop μ-loop
 add-j-2 c = search needs
-
--- src/lib.rt:127:5
 loop-less-2 : tie.Need-loop-less-2 Inv-loop μ-loop
 loop-less-2 c = search needs
-
--- src/lib.rt:127:5
 loop-again-2 : tie.Need-loop-again-2 Inv-loop μ-loop
 loop-again-2 c =
-    let s = c .before .before .before .before .before .before .before .before .before in
-    (omega arith, omega arith, λ t h.
-      let a = c .before .before .before .group-size .ensures t h in
-      let b = c .before .group-size2 .ensures t h in
-      largest-old t (s .args .found .now) (s .args .k) (c .before .before .before .before .before .loop .j) (c .before .before .before .before .before .loop .best) (omega arith) (s .pre .2) _ (c .before .before .before .before .before .loop .inv .2 t h) (omega (arith, c .if1 .left)))
-
--- src/lib.rt:121:1
+    let s = c .before .before .before .before .before .before .before .before .before in (
+      omega arith,
+      omega arith,
+      λ t h.
+          let a = c .before .before .before .group-size .ensures t h in
+          let b = c .before .group-size2 .ensures t h in
+          largest-old t (s .args .found .now) (s .args .k) (c .before .before .before .before .before .loop .j) (c .before .before .before .before .before .loop .best) (omega arith) (s .pre .2) _ (c .before .before .before .before .before .loop .inv .2 t h) (omega (arith, c .if1 .left)),
+    )
 returns : tie.Need-returns Inv-loop μ-loop
 returns c = let s = c .before .before .before .before .before in λ t h. largest-end t (s .args .found .now) (s .args .k) (c .before .loop .j) (c .before .loop .best) _ (omega arith) (s .pre .2) (c .before .loop .inv .2 t h)
 

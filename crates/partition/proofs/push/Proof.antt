@@ -1,35 +1,19 @@
 use Rattle.partition.specs.IdLaws.{push-asks, push-done}
 use Rattle.partition.specs.HeldLaws.{put-shorter}
-use Rattle.partition.specs.Held.{HeldRows}
 use Rattle.model.specs.Laws.Orders.{cells}
-use Rattle.model.specs.Groups.{Ids}
-use Rattle.model.specs.Cells.{below}
-use Rattle.model.specs.Lists.{put}
-use lib.ListN.{length}
-use mathlib.Core.List.{List}
-use mathlib.Core.Path.{_≡_, ap, _∙_}
 use native.Mathlib.Omega.{arith}
-use Prim.Native.Nat.{ℕ, _+_, _≤_}
 use borrow.Author.Needs.{needs}
 use Rattle.partition.proofs.push.Statement.{statement}
 use Rattle.partition.proofs.push.Tie as tie
 use Rattle.partition.proofs.push.Reads as reads
 use Rattle.partition.proofs.push.Lts as lts
 use Rattle.table.proofs.put4.Reads as put4-reads
-
--- src/lib.rt:177:18
 slice-aggregate-put4 : tie.Need-slice-aggregate-put4
 slice-aggregate-put4 c = search needs
-
--- src/lib.rt:177:5
 put4-requires : tie.Need-put4-requires
 put4-requires c κs = let s = c .before .before .before in push-asks (s .args .ids .now) (s .args .n) (s .pre .0) (s .pre .1) (s .args .c) (s .args .g) (s .pre .3)
-
--- src/lib.rt:172:1
 same-length : tie.Need-same-length
 same-length c = search needs
-
--- src/lib.rt:172:1
 returns : tie.Need-returns
 returns c =
     let s = c .before .before .before .before .before .before in
@@ -37,9 +21,10 @@ returns c =
     let t = s .pre .0 in
     let d = push-done (a .ids .now) (a .n) t (s .pre .1) (a .c) (a .g) _ _ (s .pre .2) (s .pre .3) (c .before .before .put4 .ensures) in
     let e = d .count in
-    let f = s .pre .1 .count in
-    (omega (arith, put-shorter cells t (a .c) (a .g)),
-    λ t h. push-done (a .ids .now) (a .n) t h (a .c) (a .g) _ _ (s .pre .2) (s .pre .3) (c .before .before .put4 .ensures))
+    let f = s .pre .1 .count in (
+      omega (arith, put-shorter cells t (a .c) (a .g)),
+      λ t h. push-done (a .ids .now) (a .n) t h (a .c) (a .g) _ _ (s .pre .2) (s .pre .3) (c .before .before .put4 .ensures),
+    )
 
 pub push-spec : {M : Type 1} → statement M
 push-spec = tie.close (tie.spec slice-aggregate-put4 put4-requires same-length returns)

@@ -1,10 +1,6 @@
 use Rattle.partition.specs.JoinLaws.{rule1-none, rule1-some}
-use Rattle.partition.specs.Held.{HeldRows, HeldIds}
-use Rattle.model.specs.Groups.{Groups}
-use lib.ListN.{length}
-use mathlib.Core.Path.{_≡_, refl, sym, ap, _∙_}
 use native.Mathlib.Omega.{arith}
-use Prim.Native.Nat.{ℕ, _+_, _-_, _*_, _≤_, _<_}
+use Prim.Native.Nat.{_-_}
 use borrow.Author.Needs.{needs}
 use Rattle.partition.proofs.rule1.Statement.{statement}
 use Rattle.partition.proofs.rule1.Tie as tie
@@ -13,28 +9,16 @@ use Rattle.partition.proofs.rule1.Lts as lts
 use Rattle.partition.proofs.found_at.Reads as found-at-reads
 use Rattle.partition.proofs.join.Reads as join-reads
 use Rattle.partition.proofs.push.Reads as push-reads
-
--- src/lib.rt:211:33
 slice-aggregate-found-at : tie.Need-slice-aggregate-found-at
 slice-aggregate-found-at c = search needs
-
--- src/lib.rt:211:9
 found-at-requires : tie.Need-found-at-requires
 found-at-requires c κs = search needs
-
--- src/lib.rt:213:13
 push-requires : tie.Need-push-requires
 push-requires c κs = search needs
-
--- src/lib.rt:216:19
 add-t16 : tie.Need-add-t16
 add-t16 c = search needs
-
--- src/lib.rt:214:9
 same-length : tie.Need-same-length
 same-length c = search needs
-
--- src/lib.rt:214:9
 returns : tie.Need-returns
 returns c =
     let s = c .before .before .before .before .before .before .before .before .before .before in
@@ -42,23 +26,15 @@ returns c =
     let f = c .before .before .before .before .before .before .found-at in
     let p = c .before .before .push .ensures in
     (p .0, omega arith, λ g h. rule1-none (a .ids .now) _ (a .n) (a .next) _ g (a .c) (f .last .1 .1 .1 .0) (f .result) h (f .ensures .1 (g .ids) (h .rows)) (c .before .before .before .before .if1 .taken) (p .1))
-
--- src/lib.rt:219:29
 slice-aggregate-join : tie.Need-slice-aggregate-join
 slice-aggregate-join c = search needs
-
--- src/lib.rt:219:9
 join-requires : tie.Need-join-requires
 join-requires c κs =
     let s = c .before .before .before .before .before .before .before .before in
     let f = c .before .before .before .before .found-at in
     (s .pre .0 .ids, s .pre .1 .rows, s .pre .2, s .pre .3, omega (arith, c .before .before .if1 .left), omega (arith, f .ensures .0, f .kept .1 .1 .1 .0))
-
--- src/lib.rt:206:1
 same-length-2 : tie.Need-same-length-2
 same-length-2 c = search needs
-
--- src/lib.rt:206:1
 returns-2 : tie.Need-returns-2
 returns-2 c =
     let s = c .before .before .before .before .before .before .before .before .before .before .before in

@@ -1,6 +1,5 @@
 use Rattle.partition.specs.LeaveLaws.{sift-all}
-use Rattle.partition.specs.Held.{HeldRows, HeldIds}
-use mathlib.Core.Path.{_≡_, refl}
+use mathlib.Core.Path.{refl}
 use borrow.Author.Needs.{needs}
 use Rattle.partition.proofs.rule2.Statement.{statement}
 use Rattle.partition.proofs.rule2.Tie as tie
@@ -8,41 +7,30 @@ use Rattle.partition.proofs.rule2.Reads as reads
 use Rattle.partition.proofs.rule2.Lts as lts
 use Rattle.partition.proofs.sift.Reads as sift-reads
 use Rattle.table.proofs.write_zeros.Reads as write-zeros-reads
-
--- src/lib.rt:292:9
 sift-requires : tie.Need-sift-requires
 sift-requires c κs = search needs
-
--- src/lib.rt:293:22
 mul-write-zeros : tie.Need-mul-write-zeros
 mul-write-zeros c = search needs
-
--- src/lib.rt:293:34
 sub-write-zeros : tie.Need-sub-write-zeros
 sub-write-zeros c = search needs
-
--- src/lib.rt:293:29
 mul-write-zeros-2 : tie.Need-mul-write-zeros-2
 mul-write-zeros-2 c = search needs
-
--- src/lib.rt:293:5
 write-zeros-requires : tie.Need-write-zeros-requires
 write-zeros-requires c κs = search needs
-
--- src/lib.rt:288:1
 same-length : tie.Need-same-length
 same-length c = search needs
-
--- src/lib.rt:288:1
 returns : tie.Need-returns
 returns c =
     let s = c .before .before .before .before .before .before .before .before .before .before in
     let a = s .args in
-    let f = c .before .before .before .before .before .before .sift in
-    (f .ensures .0, λ next g l h k.
-      record {
-        rows = sift-all (a .ids .now) _ _ (a .n) (g .ids) (h .rows) l (a .n) (f .result) refl (f .ensures .0) (f .ensures .1) (f .kept .0) (f .ensures .2 (g .ids) l (h .rows) k) (c .before .before .write-zeros .ensures);
-        is-next = h .is-next })
+    let f = c .before .before .before .before .before .before .sift in (
+      f .ensures .0,
+      λ next g l h k.
+          record {
+            rows = sift-all (a .ids .now) _ _ (a .n) (g .ids) (h .rows) l (a .n) (f .result) refl (f .ensures .0) (f .ensures .1) (f .kept .0) (f .ensures .2 (g .ids) l (h .rows) k) (c .before .before .write-zeros .ensures);
+            is-next = h .is-next;
+          },
+    )
 
 pub rule2-spec : {M : Type 1} → statement M
 rule2-spec =

@@ -7,7 +7,7 @@ use lib.ListN.{length, drop}
 use mathlib.Core.List.{List}
 use mathlib.Core.Path.{_≡_, refl, sym, ap, _∙_, subst}
 use native.Mathlib.Omega.{arith}
-use Prim.Native.Nat.{ℕ, _+_, _-_, _*_, _≤_, _<_}
+use Prim.Native.Nat.{ℕ, _-_, _*_, _≤_}
 use borrow.Author.Needs.{needs}
 use Rattle.partition.proofs.sift.Statement.{statement}
 use Rattle.partition.proofs.sift.Tie as tie
@@ -24,58 +24,39 @@ Inv-loop ids₀ n emptied m j₀ i₀ ids j i =
 
 abbrev μ-loop : tie.MeasureT-loop
 μ-loop ids₀ n emptied m j₀ i₀ ids j i = n - i
-
--- src/lib.rt:276:5
 loop-holds : tie.Need-loop-holds Inv-loop μ-loop
 loop-holds c = let s = c .before .before in (omega arith, omega arith, refl, s .pre .2 .fits, refl, λ t l h k. sift-none (s .args .ids .now) l t)
-
--- src/lib.rt:277:46
 mul-cell-at : tie.Need-mul-cell-at Inv-loop μ-loop
 mul-cell-at c = search needs
-
--- src/lib.rt:277:33
 cell-at-requires : tie.Need-cell-at-requires Inv-loop μ-loop
 cell-at-requires c κs = search needs
-
--- src/lib.rt:277:12
 is-among-requires : tie.Need-is-among-requires Inv-loop μ-loop
 is-among-requires c κs = (c .before .before .before .before .before .before .pre .1, c .before .before .before .before .before .before .pre .3)
-
--- src/lib.rt:278:13
 add-i : tie.Need-add-i Inv-loop μ-loop
 add-i c = search needs
-
--- src/lib.rt:276:5
 loop-less : tie.Need-loop-less Inv-loop μ-loop
 loop-less c = search needs
-
--- src/lib.rt:276:5
 loop-again : tie.Need-loop-again Inv-loop μ-loop
 loop-again c =
     let s = c .before .before .before .before .before .before .before .before in
     let a = s .args in
-    let v = c .before .before .before .before .before .loop .inv in
-    (omega arith, omega arith, v .2, v .3, back-more (c .before .before .before .before .before .loop .ids) (a .ids .now) (c .before .before .before .before .before .loop .i) (v .4),
-    λ t l h k. sift-drop (a .ids .now) (c .before .before .before .before .before .loop .ids) (a .n) t h l (c .before .before .before .before .before .loop .i) (c .before .before .before .before .before .loop .j) (omega arith) (v .4) (omega arith) (v .0) (v .5 t l h k)
-    (c .before .is-among .result) (c .before .is-among .ensures l k ∙ ap (has same l) (c .before .before .cell-at .ensures)) (c .if1 .taken))
-
--- src/lib.rt:280:13
+    let v = c .before .before .before .before .before .loop .inv in (
+      omega arith,
+      omega arith,
+      v .2,
+      v .3,
+      back-more (c .before .before .before .before .before .loop .ids) (a .ids .now) (c .before .before .before .before .before .loop .i) (v .4),
+      λ t l h k. sift-drop (a .ids .now) (c .before .before .before .before .before .loop .ids) (a .n) t h l (c .before .before .before .before .before .loop .i) (c .before .before .before .before .before .loop .j) (omega arith) (v .4) (omega arith) (v .0) (v .5 t l h k)
+          (c .before .is-among .result) (c .before .is-among .ensures l k ∙ ap (has same l) (c .before .before .cell-at .ensures)) (c .if1 .taken),
+    )
 copy-row-requires : tie.Need-copy-row-requires Inv-loop μ-loop
 copy-row-requires c κs = search needs
-
--- src/lib.rt:281:13
 add-j : tie.Need-add-j Inv-loop μ-loop
 add-j c = search needs
-
--- src/lib.rt:282:13
 add-i-2 : tie.Need-add-i-2 Inv-loop μ-loop
 add-i-2 c = search needs
-
--- src/lib.rt:276:5
 loop-less-2 : tie.Need-loop-less-2 Inv-loop μ-loop
 loop-less-2 c = search needs
-
--- src/lib.rt:276:5
 loop-again-2 : tie.Need-loop-again-2 Inv-loop μ-loop
 loop-again-2 c =
     let s = c .before .before .before .before .before .before .before .before .before .before .before .before in
@@ -84,25 +65,27 @@ loop-again-2 c =
     let q = c .before .before .copy-row .ensures in
     let t₀ = s .pre .0 in
     let h₀ = s .pre .2 in
-    let k₀ = s .pre .3 in
-    (omega arith, omega arith, c .before .before .copy-row .kept .0 ∙ v .2, v .3,
-    sift-back (a .ids .now) (c .before .before .before .before .before .before .before .before .before .loop .ids) (a .n) t₀ h₀ (s .pre .1) (c .before .before .before .before .before .before .before .before .before .loop .i) (c .before .before .before .before .before .before .before .before .before .loop .j) (omega arith) (v .4) (omega arith) (v .0) (v .5 t₀ (s .pre .1) h₀ k₀) _ q,
-    λ t l h k. sift-keep (a .ids .now) (c .before .before .before .before .before .before .before .before .before .loop .ids) (a .n) t h l (c .before .before .before .before .before .before .before .before .before .loop .i) (c .before .before .before .before .before .before .before .before .before .loop .j) (omega arith) (v .4) (omega arith) (v .0) (v .5 t l h k)
-    (c .before .before .before .before .before .is-among .result) (c .before .before .before .before .before .is-among .ensures l k ∙ ap (has same l) (c .before .before .before .before .before .before .cell-at .ensures)) (c .before .before .before .before .if1 .left) _ q)
-
--- src/lib.rt:270:1
+    let k₀ = s .pre .3 in (
+      omega arith,
+      omega arith,
+      c .before .before .copy-row .kept .0 ∙ v .2,
+      v .3,
+      sift-back (a .ids .now) (c .before .before .before .before .before .before .before .before .before .loop .ids) (a .n) t₀ h₀ (s .pre .1) (c .before .before .before .before .before .before .before .before .before .loop .i) (c .before .before .before .before .before .before .before .before .before .loop .j) (omega arith) (v .4) (omega arith) (v .0) (v .5 t₀ (s .pre .1) h₀ k₀) _ q,
+      λ t l h k. sift-keep (a .ids .now) (c .before .before .before .before .before .before .before .before .before .loop .ids) (a .n) t h l (c .before .before .before .before .before .before .before .before .before .loop .i) (c .before .before .before .before .before .before .before .before .before .loop .j) (omega arith) (v .4) (omega arith) (v .0) (v .5 t l h k)
+          (c .before .before .before .before .before .is-among .result) (c .before .before .before .before .before .is-among .ensures l k ∙ ap (has same l) (c .before .before .before .before .before .before .cell-at .ensures)) (c .before .before .before .before .if1 .left) _ q,
+    )
 same-length : tie.Need-same-length Inv-loop μ-loop
 same-length c = search needs
-
--- src/lib.rt:270:1
 returns : tie.Need-returns Inv-loop μ-loop
 returns c =
     let s = c .before .before .before .before in
     let a = s .args in
     let v = c .before .loop .inv in
-    let e : c .before .loop .i ≡ a .n = omega arith in
-    (omega arith, ap (λ (m : ℕ). drop (5 * m) (c .before .loop .ids)) (sym e) ∙ v .4 ∙ ap (λ (m : ℕ). drop (5 * m) (a .ids .now)) e,
-    λ t l h k. subst (λ (m : ℕ). Sifted (a .ids .now) (c .before .loop .ids) m (c .before .loop .j) l t) e (v .5 t l h k))
+    let e : c .before .loop .i ≡ a .n = omega arith in (
+      omega arith,
+      ap (λ (m : ℕ). drop (5 * m) (c .before .loop .ids)) (sym e) ∙ v .4 ∙ ap (λ (m : ℕ). drop (5 * m) (a .ids .now)) e,
+      λ t l h k. subst (λ (m : ℕ). Sifted (a .ids .now) (c .before .loop .ids) m (c .before .loop .j) l t) e (v .5 t l h k),
+    )
 
 pub sift-spec : {M : Type 1} → statement M
 sift-spec =

@@ -1,4 +1,4 @@
-use mathlib.Core.Path.{_≡_, sym, _∙_}
+use mathlib.Core.Path.{sym, _∙_}
 use Rattle.scans.specs.Found.{found-held, missing-held}
 use borrow.Author.Needs.{needs}
 use Rattle.scans.proofs.holds.Statement.{statement}
@@ -6,24 +6,14 @@ use Rattle.scans.proofs.holds.Tie as tie
 use Rattle.scans.proofs.holds.Reads as reads
 use Rattle.scans.proofs.holds.Lts as lts
 use Rattle.table.proofs.find4.Reads as find4-reads
-
--- src/lib.rt:15:9
 find4-requires : tie.Need-find4-requires
 find4-requires c κs = search needs
-
--- src/lib.rt:17:28
 enum-told : tie.Need-enum-told
 enum-told c = search needs
-
--- src/lib.rt:18:30
 enum-told-2 : tie.Need-enum-told-2
 enum-told-2 c = search needs
-
--- src/lib.rt:11:1
 returns : tie.Need-returns
 returns c = let s = c .before .before .before .before in sym (found-held 30 (s .args .m) (s .args .cells .now) (s .args .c) _ (sym (c .enum-told .given .1) ∙ c .before .before .find4 .ensures))
-
--- src/lib.rt:11:1
 returns-2 : tie.Need-returns-2
 returns-2 c = let s = c .before .before .before .before in sym (missing-held 30 (s .args .m) (s .args .cells .now) (s .args .c) _ (s .pre) (sym (c .enum-told2 .given .1) ∙ c .before .before .find4 .ensures))
 

@@ -1,7 +1,7 @@
 -- `finish` meets its contract.
 use Prim.Native.Nat.{ℕ, _+_, _*_, _≤_}
 use native.Mathlib.Omega.{arith}
-use mathlib.Core.Path.{_≡_, refl, _∙_}
+use mathlib.Core.Path.{refl, _∙_}
 use mathlib.Core.List.{[], _∷_}
 use lib.ListN.{length, replicate, length-replicate}
 use Rattle.model.specs.Cells.{touch26}
@@ -9,7 +9,6 @@ use Rattle.model.specs.Occupancy.{playBatch}
 use Rattle.model.specs.Update.{mostCells}
 use Rattle.layout.specs.State.{idsLen, decode}
 use Rattle.yard.specs.Numbers.{ids-words, groups-words}
-use Rattle.yard.specs.Steps.{frontWords}
 use Rattle.yard.specs.StepLaws.{zeros-blank, finish-regroups}
 use Rattle.yard.specs.WriteLaws.{finish-written}
 use borrow.Author.Needs.{needs}
@@ -73,10 +72,11 @@ slice-aggregate-write-back-2 c = search needs
 write-back-requires : tie.Need-write-back-requires
 write-back-requires c κs =
     let p = c .before .before .before .before .before .before .before .before .before .before .before .before .before .before .before .before .before .before .before .before .before .before .before .before .before .pre in
-    let r = c .before .before .before .before .before .before .before .before .before .before .before .before .before .before .before .before .regroup-state in
-    (omega (arith, p .1 .known .long, c .before .before .before .before .before .write-front .kept .0),
+    let r = c .before .before .before .before .before .before .before .before .before .before .before .before .before .before .before .before .regroup-state in (
+      omega (arith, p .1 .known .long, c .before .before .before .before .before .write-front .kept .0),
       omega (arith, ids-words, r .kept .1 .0, length-replicate {A = ℕ} 10240 0),
-      omega (arith, groups-words, r .kept .1 .1 .0, length-replicate {A = ℕ} 9216 0))
+      omega (arith, groups-words, r .kept .1 .1 .0, length-replicate {A = ℕ} 9216 0),
+    )
 
 same-length : tie.Need-same-length
 same-length c =
@@ -91,14 +91,14 @@ returns c =
     let h = c .before .before .before .before .before .before .before .before .write-front in
     let z = c .before .before .write-back in
     λ b f.
-      let o = playBatch touch26 b (decode (a .state .now) .occupancy) in
-      finish-written f (r .last .1 .0) (r .last .1 .1 .0) (r .result) (r .ensures (o .newlyOccupied) (o .newlyEmptied) (finish-regroups f (replicate 10240 0) (replicate 9216 0) (zeros-blank 10240) ids-zeros (zeros-blank 9216) groups-zeros))
-      (p .2) (p .3) (p .4) (p .5)
-      (omega (arith, ids-words, r .kept .1 .0, length-replicate {A = ℕ} 10240 0)) (omega (arith, groups-words, r .kept .1 .1 .0, length-replicate {A = ℕ} 9216 0))
-      (c .before .before .before .before .before .before .before .before .before .before .before .before .before .before .before .before .word .result ∷ c .before .before .before .before .before .before .before .before .before .before .before .before .before .before .before .word2 .result ∷ c .before .before .before .before .before .before .before .before .before .before .before .before .before .before .word3 .result ∷ c .before .before .before .before .before .before .before .before .before .before .before .before .before .word4 .result ∷ c .before .before .before .before .before .before .before .before .before .before .before .before .word5 .result ∷ c .before .before .before .before .before .before .before .before .before .before .before .word6 .result ∷ r .result .next ∷ 0 ∷ [])
-      (z .last .0)
-      (λ i. c .before .before .before .before .before .before .before .before .before .before .before .before .before .before .before .before .word .ensures i ∷ c .before .before .before .before .before .before .before .before .before .before .before .before .before .before .before .word2 .ensures i ∷ c .before .before .before .before .before .before .before .before .before .before .before .before .before .before .word3 .ensures i ∷ c .before .before .before .before .before .before .before .before .before .before .before .before .before .word4 .ensures i ∷ c .before .before .before .before .before .before .before .before .before .before .before .before .word5 .ensures i ∷ c .before .before .before .before .before .before .before .before .before .before .before .word6 .ensures i ∷ r .result .next ∷ 0 ∷ [])
-      (z .ensures (a .state .now) _ (h .ensures))
+    let o = playBatch touch26 b (decode (a .state .now) .occupancy) in
+    finish-written f (r .last .1 .0) (r .last .1 .1 .0) (r .result) (r .ensures (o .newlyOccupied) (o .newlyEmptied) (finish-regroups f (replicate 10240 0) (replicate 9216 0) (zeros-blank 10240) ids-zeros (zeros-blank 9216) groups-zeros))
+    (p .2) (p .3) (p .4) (p .5)
+    (omega (arith, ids-words, r .kept .1 .0, length-replicate {A = ℕ} 10240 0)) (omega (arith, groups-words, r .kept .1 .1 .0, length-replicate {A = ℕ} 9216 0))
+    (c .before .before .before .before .before .before .before .before .before .before .before .before .before .before .before .before .word .result ∷ c .before .before .before .before .before .before .before .before .before .before .before .before .before .before .before .word2 .result ∷ c .before .before .before .before .before .before .before .before .before .before .before .before .before .before .word3 .result ∷ c .before .before .before .before .before .before .before .before .before .before .before .before .before .word4 .result ∷ c .before .before .before .before .before .before .before .before .before .before .before .before .word5 .result ∷ c .before .before .before .before .before .before .before .before .before .before .before .word6 .result ∷ r .result .next ∷ 0 ∷ [])
+    (z .last .0)
+    (λ i. c .before .before .before .before .before .before .before .before .before .before .before .before .before .before .before .before .word .ensures i ∷ c .before .before .before .before .before .before .before .before .before .before .before .before .before .before .before .word2 .ensures i ∷ c .before .before .before .before .before .before .before .before .before .before .before .before .before .before .word3 .ensures i ∷ c .before .before .before .before .before .before .before .before .before .before .before .before .before .word4 .ensures i ∷ c .before .before .before .before .before .before .before .before .before .before .before .before .word5 .ensures i ∷ c .before .before .before .before .before .before .before .before .before .before .before .word6 .ensures i ∷ r .result .next ∷ 0 ∷ [])
+    (z .ensures (a .state .now) _ (h .ensures))
 
 pub finish-spec : {M : Type 1} → statement M
 finish-spec =

@@ -1,8 +1,6 @@
 -- `open_map` meets its contract.
 use native.Mathlib.Omega.{arith}
-use mathlib.Core.Path.{_≡_, refl, _∙_}
-use Prim.Native.Nat.{ℕ, _+_, _*_, _≤_}
-use Rattle.layout.specs.State.{decode}
+use mathlib.Core.Path.{refl, _∙_}
 use Rattle.yard.specs.Numbers.{entities-at, cells-at, occupied-at, entities-words, cells-words}
 use Rattle.yard.specs.KnownLaws.{cells-within, occupied-within, header-within}
 use Rattle.yard.specs.StepLaws.{entities-loaded, cells-loaded, crowd-room, map-opened}

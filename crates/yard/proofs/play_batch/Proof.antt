@@ -6,7 +6,6 @@ use Rattle.model.specs.Lists.{each, run}
 use Rattle.model.specs.Cells.{touch26}
 use Rattle.model.specs.Occupancy.{remove, play}
 use Rattle.yard.specs.PlayLaws.{batch-stop, batch-then}
-use borrow.Author.Needs.{needs}
 use Rattle.yard.proofs.play_batch.Statement.{statement}
 use Rattle.yard.proofs.play_batch.Tie as tie
 
@@ -75,8 +74,8 @@ returns-2 c =
     let q = c .before .before .before .before .before .before .before .before .before .before .play-moves in
     let z = c .before .before .before .before .before .before .before .before .before .before .before .before .before .before .before .before .before .if1 .left in
     λ was o r.
-      batch-then (a .batch .now) (a .removals) (a .moves) (k .result) (k .ensures was o r) z (q .result)
-      (q .ensures was (run (play touch26) o (each remove (take (a .removals) (a .batch .now)))) (k .ensures was o r .ready z))
+    batch-then (a .batch .now) (a .removals) (a .moves) (k .result) (k .ensures was o r) z (q .result)
+    (q .ensures was (run (play touch26) o (each remove (take (a .removals) (a .batch .now)))) (k .ensures was o r .ready z))
 
 pub play-batch-spec : {M : Type 1} → statement M
 play-batch-spec =

@@ -1,5 +1,5 @@
 -- `play_moves` meets its contract: what is left of the moves decides for all.
-use Prim.Native.Nat.{ℕ, _+_, _-_, _*_, _≤_}
+use Prim.Native.Nat.{_+_, _-_, _*_, _≤_}
 use native.Mathlib.Omega.{arith}
 use mathlib.Core.Path.{_≡_, refl, sym, ap, _∙_}
 use mathlib.Core.Bool.{true}
@@ -22,7 +22,7 @@ Inv-loop ents₀ cells₀ crowd₀ occ₀ emp₀ batch from moves c₀ i₀ ents
     × ((length ents ≡ length ents₀) × (length cells ≡ length cells₀) × (length crowd ≡ length crowd₀) × (length occ ≡ length occ₀) × (length emp ≡ length emp₀))
     × (all inRange (movesLeft batch from moves i) ≡ true)
     × ((was : List Cell) (o : Occupancy) → Ready ents₀ cells₀ crowd₀ occ₀ emp₀ c₀ was o
-      → Going ents cells crowd occ emp c was o (each toMove (movesIn moves (drop from batch))) (eventsLeft batch from moves i))
+    → Going ents cells crowd occ emp c was o (each toMove (movesIn moves (drop from batch))) (eventsLeft batch from moves i))
 
 abbrev μ-loop : tie.MeasureT-loop
 μ-loop ents₀ cells₀ crowd₀ occ₀ emp₀ batch from moves c₀ i₀ ents cells crowd occ emp c i = moves - i
@@ -30,9 +30,12 @@ abbrev μ-loop : tie.MeasureT-loop
 loop-holds : tie.Need-loop-holds Inv-loop μ-loop
 loop-holds c =
     let s = c .before .before .before .before .before .before in
-    let a = s .args in
-    (omega arith, (refl, refl, refl, refl, refl), sym (ap (all inRange) (moves-start (a .batch .now) (a .from) (a .moves))) ∙ s .pre .4,
-      λ was o r. going-start r (each toMove (movesIn (a .moves) (drop (a .from) (a .batch .now)))) (eventsLeft (a .batch .now) (a .from) (a .moves) 0) (events-start (a .batch .now) (a .from) (a .moves)))
+    let a = s .args in (
+      omega arith,
+      (refl, refl, refl, refl, refl),
+      sym (ap (all inRange) (moves-start (a .batch .now) (a .from) (a .moves))) ∙ s .pre .4,
+      λ was o r. going-start r (each toMove (movesIn (a .moves) (drop (a .from) (a .batch .now)))) (eventsLeft (a .batch .now) (a .from) (a .moves) 0) (events-start (a .batch .now) (a .from) (a .moves)),
+    )
 
 mul-at : tie.Need-mul-at Inv-loop μ-loop
 mul-at c = search needs
@@ -56,10 +59,13 @@ play-move-requires c κs =
     let p = s .pre in
     let a = s .args in
     let l = c .before .before .before .before .before .before .before .before .loop in
-    let g = l .inv .3 (p .0) (p .1) (p .2) in
-    (g .at, g .ready .held,
+    let g = l .inv .3 (p .0) (p .1) (p .2) in (
+      g .at,
+      g .ready .held,
       ap cellInRange (c .before .before .before .before .before .before .move-cell .ensures) ∙ range-step (a .batch .now) (a .from) (a .moves) (l .i) (c .before .before .before .before .before .before .before .loop-test .taken) (l .inv .2) .0,
-      ready-enter (g .ready), ready-leave (g .ready))
+      ready-enter (g .ready),
+      ready-leave (g .ready),
+    )
 
 judge-requires : tie.Need-judge-requires Inv-loop μ-loop
 judge-requires c κs = search needs
@@ -95,10 +101,11 @@ returns c =
     let d = c .before .before .before .before .before .before .before .before .before .before .before .before .before .before .before .before .before .before .before .move-cell in
     let t = c .before .before .before .before .before .before .before .before .before .before .before .before .before .before .before .before .before .before .before .before .loop-test .taken in
     λ was o r.
-      let g = going-at (events-step b f m (l .i) t (d .result) (d .ensures)) (l .inv .3 was o r) in
-      record {
-        number = going-stop (moveTo (getD b (f + 5 * l .i) 0) (d .result)) (eventsLeft b f m (l .i + 1)) g (k .last .0) (k .last .1 .0) (k .last .1 .1 .0) (k .last .1 .1 .1 .0) (k .last .1 .1 .1 .1 .0) (k .result) (k .ensures (g .at) (g .ready .held)) (c .before .judge .result) (c .before .judge .ensures) (c .if1 .taken);
-        ready = λ e. absurd (c .if1 .taken e) }
+    let g = going-at (events-step b f m (l .i) t (d .result) (d .ensures)) (l .inv .3 was o r) in
+    record {
+      number = going-stop (moveTo (getD b (f + 5 * l .i) 0) (d .result)) (eventsLeft b f m (l .i + 1)) g (k .last .0) (k .last .1 .0) (k .last .1 .1 .0) (k .last .1 .1 .1 .0) (k .last .1 .1 .1 .1 .0) (k .result) (k .ensures (g .at) (g .ready .held)) (c .before .judge .result) (c .before .judge .ensures) (c .if1 .taken);
+      ready = λ e. absurd (c .if1 .taken e);
+    }
 
 add-i : tie.Need-add-i Inv-loop μ-loop
 add-i c =
@@ -120,14 +127,15 @@ loop-again c =
     let d = c .before .before .before .before .before .before .before .before .before .before .before .before .before .before .before .before .before .before .before .move-cell in
     let t = c .before .before .before .before .before .before .before .before .before .before .before .before .before .before .before .before .before .before .before .before .loop-test .taken in
     let q = k .kept in
-    let v = l .inv .1 in
-    (omega (arith, t),
+    let v = l .inv .1 in (
+      omega (arith, t),
       (q .0 ∙ v .0, q .1 .0 ∙ v .1, q .1 .1 .0 ∙ v .2, q .1 .1 .1 .0 ∙ v .3, q .1 .1 .1 .1 .0 ∙ v .4),
       range-step b f m (l .i) t (l .inv .2) .1,
       λ was o r.
-        let g = going-at (events-step b f m (l .i) t (d .result) (d .ensures)) (l .inv .3 was o r) in
-        going-next (moveTo (getD b (f + 5 * l .i) 0) (d .result)) (eventsLeft b f m (l .i + 1)) g (k .last .0) (k .last .1 .0) (k .last .1 .1 .0) (k .last .1 .1 .1 .0) (k .last .1 .1 .1 .1 .0) (k .result) (k .ensures (g .at) (g .ready .held))
-        (q .0) (q .1 .0) (q .1 .1 .0) (q .1 .1 .1 .0) (q .1 .1 .1 .1 .0) (sym (c .before .judge .ensures) ∙ c .if1 .left))
+          let g = going-at (events-step b f m (l .i) t (d .result) (d .ensures)) (l .inv .3 was o r) in
+          going-next (moveTo (getD b (f + 5 * l .i) 0) (d .result)) (eventsLeft b f m (l .i + 1)) g (k .last .0) (k .last .1 .0) (k .last .1 .1 .0) (k .last .1 .1 .1 .0) (k .last .1 .1 .1 .1 .0) (k .result) (k .ensures (g .at) (g .ready .held))
+          (q .0) (q .1 .0) (q .1 .1 .0) (q .1 .1 .1 .0) (q .1 .1 .1 .1 .0) (sym (c .before .judge .ensures) ∙ c .if1 .left),
+    )
 
 same-length-6 : tie.Need-same-length-6 Inv-loop μ-loop
 same-length-6 c =

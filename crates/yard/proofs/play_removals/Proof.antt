@@ -1,5 +1,5 @@
 -- `play_removals` meets its contract: what is left of the removals decides for all.
-use Prim.Native.Nat.{ℕ, _+_, _-_, _≤_}
+use Prim.Native.Nat.{_+_, _-_, _≤_}
 use native.Mathlib.Omega.{arith}
 use mathlib.Core.Path.{_≡_, refl, sym, _∙_}
 use mathlib.Core.List.{List}
@@ -18,7 +18,7 @@ Inv-loop ents₀ cells₀ crowd₀ occ₀ emp₀ batch removals c₀ i₀ ents c
     (i ≤ removals)
     × ((length ents ≡ length ents₀) × (length cells ≡ length cells₀) × (length crowd ≡ length crowd₀) × (length occ ≡ length occ₀) × (length emp ≡ length emp₀))
     × ((was : List Cell) (o : Occupancy) → Ready ents₀ cells₀ crowd₀ occ₀ emp₀ c₀ was o
-      → Going ents cells crowd occ emp c was o (each remove (take removals batch)) (removalsLeft batch removals i))
+    → Going ents cells crowd occ emp c was o (each remove (take removals batch)) (removalsLeft batch removals i))
 
 abbrev μ-loop : tie.MeasureT-loop
 μ-loop ents₀ cells₀ crowd₀ occ₀ emp₀ batch removals c₀ i₀ ents cells crowd occ emp c i = removals - i
@@ -71,11 +71,12 @@ returns c =
     let l = c .before .before .before .before .before .before .before .before .before .before .before .before .before .before .before .before .before .before .before .before .loop in
     let k = c .before .before .before .before .before .before .before .before .before .before .before .before .play-removal in
     λ was o r.
-      let g = going-at (removals-step b m (s .pre .3) (l .i) (c .before .before .before .before .before .before .before .before .before .before .before .before .before .before .before .before .before .before .before .loop-test .taken)) (l .inv .2 was o r) in
-      let h = k .ensures (g .at) (g .ready .held) in
-      record {
-        number = going-stop (remove (getD b (l .i) 0)) (removalsLeft b m (l .i + 1)) g (k .last .0) (k .last .1 .0) (k .last .1 .1 .0) (k .last .1 .1 .1 .0) (k .last .1 .1 .1 .1 .0) (k .result) h (c .before .judge .result) (c .before .judge .ensures) (c .if1 .taken);
-        ready = λ e. absurd (c .if1 .taken e) }
+    let g = going-at (removals-step b m (s .pre .3) (l .i) (c .before .before .before .before .before .before .before .before .before .before .before .before .before .before .before .before .before .before .before .loop-test .taken)) (l .inv .2 was o r) in
+    let h = k .ensures (g .at) (g .ready .held) in
+    record {
+      number = going-stop (remove (getD b (l .i) 0)) (removalsLeft b m (l .i + 1)) g (k .last .0) (k .last .1 .0) (k .last .1 .1 .0) (k .last .1 .1 .1 .0) (k .last .1 .1 .1 .1 .0) (k .result) h (c .before .judge .result) (c .before .judge .ensures) (c .if1 .taken);
+      ready = λ e. absurd (c .if1 .taken e);
+    }
 
 add-i : tie.Need-add-i Inv-loop μ-loop
 add-i c = search needs
@@ -91,13 +92,14 @@ loop-again c =
     let l = c .before .before .before .before .before .before .before .before .before .before .before .before .before .before .before .before .before .before .before .before .loop in
     let k = c .before .before .before .before .before .before .before .before .before .before .before .before .play-removal in
     let q = k .kept in
-    let v = l .inv .1 in
-    (omega (arith, c .before .before .before .before .before .before .before .before .before .before .before .before .before .before .before .before .before .before .before .loop-test .taken),
+    let v = l .inv .1 in (
+      omega (arith, c .before .before .before .before .before .before .before .before .before .before .before .before .before .before .before .before .before .before .before .loop-test .taken),
       (q .0 ∙ v .0, q .1 .0 ∙ v .1, q .1 .1 .0 ∙ v .2, q .1 .1 .1 .0 ∙ v .3, q .1 .1 .1 .1 .0 ∙ v .4),
       λ was o r.
-        let g = going-at (removals-step b m (s .pre .3) (l .i) (c .before .before .before .before .before .before .before .before .before .before .before .before .before .before .before .before .before .before .before .loop-test .taken)) (l .inv .2 was o r) in
-        going-next (remove (getD b (l .i) 0)) (removalsLeft b m (l .i + 1)) g (k .last .0) (k .last .1 .0) (k .last .1 .1 .0) (k .last .1 .1 .1 .0) (k .last .1 .1 .1 .1 .0) (k .result) (k .ensures (g .at) (g .ready .held))
-        (q .0) (q .1 .0) (q .1 .1 .0) (q .1 .1 .1 .0) (q .1 .1 .1 .1 .0) (sym (c .before .judge .ensures) ∙ c .if1 .left))
+          let g = going-at (removals-step b m (s .pre .3) (l .i) (c .before .before .before .before .before .before .before .before .before .before .before .before .before .before .before .before .before .before .before .loop-test .taken)) (l .inv .2 was o r) in
+          going-next (remove (getD b (l .i) 0)) (removalsLeft b m (l .i + 1)) g (k .last .0) (k .last .1 .0) (k .last .1 .1 .0) (k .last .1 .1 .1 .0) (k .last .1 .1 .1 .1 .0) (k .result) (k .ensures (g .at) (g .ready .held))
+          (q .0) (q .1 .0) (q .1 .1 .0) (q .1 .1 .1 .0) (q .1 .1 .1 .1 .0) (sym (c .before .judge .ensures) ∙ c .if1 .left),
+    )
 
 same-length-6 : tie.Need-same-length-6 Inv-loop μ-loop
 same-length-6 c =

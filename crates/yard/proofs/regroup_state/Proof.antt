@@ -1,7 +1,6 @@
 -- `regroup_state` meets its contract.
 use native.Mathlib.Omega.{arith}
-use mathlib.Core.Path.{_≡_, refl, _∙_}
-use Prim.Native.Nat.{ℕ, _+_, _*_, _≤_}
+use mathlib.Core.Path.{refl}
 use lib.ListN.{length}
 use Rattle.model.specs.Cells.{touch26}
 use Rattle.model.specs.Groups.{regroup}
@@ -41,10 +40,18 @@ regroup-requires c κs =
     let o = s .pre .0 in
     let e = s .pre .1 in
     let x = s .pre .2 in
-    let k = x .known in
-    (decode (a .state .now) .groups, o, e, regroup-ready (a .state .now) (a .ids .now) (a .groups .now) (a .occ .now) (a .p) (a .emp .now) (a .m) o e x 59400 64520 ids-at groups-at (l .last .1 .1 .1 .0) (l .ensures) (l .kept .1 .1 .1 .0) (n .result) (nextId (a .state .now)) (n .ensures) refl, x .opened, x .emptied,
+    let k = x .known in (
+      decode (a .state .now) .groups,
+      o,
+      e,
+      regroup-ready (a .state .now) (a .ids .now) (a .groups .now) (a .occ .now) (a .p) (a .emp .now) (a .m) o e x 59400 64520 ids-at groups-at (l .last .1 .1 .1 .0) (l .ensures) (l .kept .1 .1 .1 .0) (n .result) (nextId (a .state .now)) (n .ensures) refl,
+      x .opened,
+      x .emptied,
       omega (arith, n .ensures, k .stands .id-count, ids-room (length (decode (a .state .now) .groups .ids)) (k .fits .ids), x .opened-few, x .ids-room, l .kept .1 .1 .1 .0),
-      omega (arith, x .next-room, k .stands .next-id), x .few, x .next-fits)
+      omega (arith, x .next-room, k .stands .next-id),
+      x .few,
+      x .next-fits,
+    )
 
 build-records-requires : tie.Need-build-records-requires
 build-records-requires c κs =
@@ -73,8 +80,8 @@ returns c =
     let r = c .before .before .before .before .before .before .before .regroup in
     let q = c .before .before .build-records in
     λ o e x.
-      let h = r .ensures (decode (a .state .now) .groups) o e (regroup-ready (a .state .now) (a .ids .now) (a .groups .now) (a .occ .now) (a .p) (a .emp .now) (a .m) o e x 59400 64520 ids-at groups-at (l .last .1 .1 .1 .0) (l .ensures) (l .kept .1 .1 .1 .0) (n .result) (nextId (a .state .now)) (n .ensures) refl) (x .opened) (x .emptied) in
-      record { ids-held = h; groups-held = q .ensures (regroup touch26 o e (decode (a .state .now) .groups) .ids) (plain (h .rows)) }
+    let h = r .ensures (decode (a .state .now) .groups) o e (regroup-ready (a .state .now) (a .ids .now) (a .groups .now) (a .occ .now) (a .p) (a .emp .now) (a .m) o e x 59400 64520 ids-at groups-at (l .last .1 .1 .1 .0) (l .ensures) (l .kept .1 .1 .1 .0) (n .result) (nextId (a .state .now)) (n .ensures) refl) (x .opened) (x .emptied) in
+    record { ids-held = h; groups-held = q .ensures (regroup touch26 o e (decode (a .state .now) .groups) .ids) (plain (h .rows)) }
 
 pub regroup-state-spec : {M : Type 1} → statement M
 regroup-state-spec =

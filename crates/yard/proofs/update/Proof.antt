@@ -1,14 +1,11 @@
 -- `update` meets its contract.
-use Prim.Native.Nat.{ℕ, _+_, _*_, _≤_}
 use native.Mathlib.Omega.{arith}
-use mathlib.Core.Path.{_≡_, refl, sym, ap, _∙_}
-use mathlib.Core.Bool.{true, false}
+use mathlib.Core.Path.{sym, _∙_}
 use borrow.Author.Tests.{not-true, not-false}
-use lib.ListN.{length}
 use Rattle.model.specs.Cells.{touch26}
 use Rattle.model.specs.Update.{update}
 use Rattle.layout.specs.State.{decode, nextId}
-use Rattle.batch.specs.Words.{batchOf, tooShort, early}
+use Rattle.batch.specs.Words.{batchOf, early}
 use Rattle.yard.specs.KnownLaws.{header-within}
 use Rattle.yard.specs.Update.{done}
 use Rattle.yard.specs.AnswerLaws.{short-answer, batch-fits, wild-answer, state-known, rest-answer, early-answer}

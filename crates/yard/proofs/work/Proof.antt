@@ -1,8 +1,8 @@
 -- `work` meets its contract.
-use Prim.Native.Nat.{ℕ, _+_, _*_, _≤_}
+use Prim.Native.Nat.{ℕ}
 use native.Mathlib.Omega.{arith}
-use mathlib.Core.Path.{_≡_, refl, sym, _∙_}
-use lib.ListN.{length, replicate, length-replicate}
+use mathlib.Core.Path.{refl, sym, _∙_}
+use lib.ListN.{replicate, length-replicate}
 use Rattle.model.specs.Occupancy.{occupied, startBatch}
 use Rattle.layout.specs.State.{decode, nextId}
 use Rattle.batch.specs.Words.{batchOf}
@@ -94,12 +94,14 @@ finish-requires c κs =
     let d = (work-ready w k (q .last .1 .0) (q .last .1 .1 .0) (q .last .1 .1 .1 .0) (replicate 4100 0) (replicate 4100 0) (q .result) (q .ensures) (q .kept .1 .0 ∙ length-replicate {A = ℕ} 20485 0) (q .kept .1 .1 .0 ∙ length-replicate {A = ℕ} 30750 0) (q .kept .1 .1 .1 .0 ∙ length-replicate {A = ℕ} 5125 0) (zeros-blank 4100) (length-replicate {A = ℕ} 4100 0) (zeros-blank 4100) (length-replicate {A = ℕ} 4100 0)) in
     let m = batchOf (s .args .batch .now) (s .args .removals) (s .args .moves) in
     let p = c .before .before .before .before .before .before .before .before .before .before .before .before .play-batch in
-    let x = p .ensures (occupied (decode w .occupancy)) (startBatch (decode w .occupancy)) d in
-    (m, can-finish w k m (s .pre .2) (p .result .number) (x .number) (c .before .before .before .before .before .before .if1 .left) (p .last .0) (p .last .1 .0) (p .last .1 .1 .0) (p .last .1 .1 .1 .0) (p .last .1 .1 .1 .1 .0) (p .result .counts) (x .ready (c .before .before .before .before .before .before .if1 .left)),
+    let x = p .ensures (occupied (decode w .occupancy)) (startBatch (decode w .occupancy)) d in (
+      m,
+      can-finish w k m (s .pre .2) (p .result .number) (x .number) (c .before .before .before .before .before .before .if1 .left) (p .last .0) (p .last .1 .0) (p .last .1 .1 .0) (p .last .1 .1 .1 .0) (p .last .1 .1 .1 .1 .0) (p .result .counts) (x .ready (c .before .before .before .before .before .before .if1 .left)),
       omega (arith, entities-words, p .kept .0, q .kept .1 .0, length-replicate {A = ℕ} 20485 0),
       omega (arith, cells-words, p .kept .1 .0, q .kept .1 .1 .0, length-replicate {A = ℕ} 30750 0),
       omega (arith, net-words, p .kept .1 .1 .1 .0, length-replicate {A = ℕ} 4100 0),
-      omega (arith, net-words, p .kept .1 .1 .1 .1 .0, length-replicate {A = ℕ} 4100 0))
+      omega (arith, net-words, p .kept .1 .1 .1 .1 .0, length-replicate {A = ℕ} 4100 0),
+    )
 
 same-length-2 : tie.Need-same-length-2
 same-length-2 c = search needs

@@ -3,7 +3,6 @@ use native.Mathlib.Omega.{arith}
 use mathlib.Core.Path.{_∙_}
 use Rattle.yard.specs.Numbers.{ids-at, groups-at, state-ends, ids-words, groups-words}
 use Rattle.yard.specs.WriteLaws.{back-written}
-use borrow.Author.Needs.{needs}
 use Rattle.yard.proofs.write_back.Statement.{statement}
 use Rattle.yard.proofs.write_back.Tie as tie
 

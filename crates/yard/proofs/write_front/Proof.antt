@@ -3,7 +3,6 @@ use native.Mathlib.Omega.{arith}
 use mathlib.Core.Path.{_∙_}
 use Rattle.yard.specs.Numbers.{entities-at, cells-at, occupied-at, emptied-at, state-ends, entities-words, cells-words, net-words}
 use Rattle.yard.specs.WriteLaws.{front-written}
-use borrow.Author.Needs.{needs}
 use Rattle.yard.proofs.write_front.Statement.{statement}
 use Rattle.yard.proofs.write_front.Tie as tie
 

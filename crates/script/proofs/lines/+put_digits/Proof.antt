@@ -1,11 +1,11 @@
 -- The measure is the number. Its digits are those of its tenth and a last one.
 use borrow.Author.Needs.{needs}
-use mathlib.Core.Path.{_≡_, refl, sym, ap, _∙_, subst}
+use mathlib.Core.Path.{sym, ap, _∙_}
 use native.Mathlib.Omega.{arith}
 use Rattle.script.specs.DecimalLaws.{decimal-small, decimal-more, length-small, length-more}
 use Rattle.script.proofs.Putting.{then}
 use Prim.Native.Nat.{ℕ, _/_, _≤_, _<_}
-use mathlib.Core.List.{List, [], _∷_, _++_}
+use mathlib.Core.List.{[], _∷_, _++_}
 use lib.ListN.{length}
 use Rattle.script.specs.Lines.{decimal, put}
 use borrow.Fn.Kinds.{In}

@@ -1,6 +1,5 @@
 -- Each test says which length holds.
 use borrow.Author.Tests.{eq-eqb, ne-eqb}
-use borrow.Author.Needs.{needs}
 use Rattle.script.proofs.records.length_of.Statement.{statement}
 use Rattle.script.proofs.records.length_of.Tie as tie
 

@@ -1,7 +1,6 @@
 -- Each test says which record it is.
 use borrow.Author.Tests.{eq-eqb, ne-eqb}
 use Rattle.script.specs.Records.{recordOf}
-use borrow.Author.Needs.{needs}
 use Rattle.script.proofs.records.record_of.Statement.{statement}
 use Rattle.script.proofs.records.record_of.Tie as tie
 

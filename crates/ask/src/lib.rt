@@ -1,0 +1,638 @@
+// The questions: what a lent state answers. A state that is too short is refused by 1, one that is not consistent by 2, a cell out
+// of range by 4, and an answer that is longer than the slice for it by 8, in that order.
+use component::Cell;
+use component::CellId;
+use table::Place;
+ghost use mathlib.Core.Path.{_≡_};
+ghost use mathlib.Core.Bool.{true};
+ghost use mathlib.Core.List.{_∷_, [], _++_};
+ghost use Prim.Native.Nat.{_+_, _*_, _≤_, _<_, min};
+ghost use lib.Dec.{eqb};
+ghost use lib.ListN.{length, getD, take};
+ghost use Rattle.component.specs.Range.{cellInRange};
+ghost use Rattle.component.specs.Stored.{unbiased};
+ghost use Rattle.model.specs.Lists.{get, has, keys, keep, gather};
+ghost use Rattle.model.specs.Cells.{same};
+ghost use Rattle.model.specs.Flood.{cutAt, flood as floodBy};
+ghost use Rattle.model.specs.Questions.{nearby as nearbyBy, cube as cubeBy};
+ghost use Rattle.table.specs.Rows.{table1, table4, isTable1, isTable4};
+ghost use Rattle.layout.specs.Rows.{entitiesIn, cellsIn, netIn, idsIn, groupsIn};
+ghost use Rattle.layout.specs.State.{entityWords, cellWords, occupiedWords, emptiedWords, idWords, groupWords};
+ghost use Rattle.layout.specs.Points.{longEnough};
+ghost use Rattle.flood.specs.Rows.{rowCell};
+ghost use Rattle.flood.specs.Standing.{Cells, Floodable};
+ghost use Rattle.flood.specs.Answers.{answerWords, Queued, cellsOfRows};
+ghost use Rattle.ask.specs.Answers.{refusal, cellRefusal, whereFrom, whereOf, idFrom, idOf, groupFrom, groupOf, cornersFrom, cornersOf, listed, listedNumbers, listedCells, there, flooded, depthOf, idsOf, entitiesOf, occupiedOf, emptiedOf, nearbyOf, cubeOf, floodOf};
+ghost use Rattle.ask.specs.Parts.{having, standingIn, anyOf, apart, beside};
+
+// Where an entity stands.
+pub enum Where {
+    Found(CellId),
+    NotFound,
+    Refused(u64),
+}
+
+// The id of a cell.
+pub enum IdOf {
+    Found(u64),
+    NotFound,
+    Refused(u64),
+}
+
+// What is shown of a group: its grid and its cell count.
+pub struct Shown {
+    pub grid: u64,
+    pub count: u64,
+}
+
+// A group by id.
+pub enum GroupOf {
+    Found(Shown),
+    NotFound,
+    Refused(u64),
+}
+
+// How many a list holds; of one that is too long, the words needed.
+pub enum Listing {
+    Found(usize),
+    NotFound(usize),
+    TooLong(usize),
+    Refused(u64),
+}
+
+// How many cells a flood gives, and whether that was all of it.
+pub struct Visited {
+    pub number: usize,
+    pub was_all: bool,
+}
+
+// What a flood gives; of one that is too long, the words needed.
+pub enum Flooding {
+    Found(Visited),
+    NotFound(Visited),
+    TooLong(usize),
+    Refused(u64),
+}
+
+// How far a flood goes.
+pub enum Depth {
+    Whole,
+    AtMost(i32),
+}
+
+// 1 for a state that is too short, 2 for one that is not consistent, else 0.
+fn refused(state: &[u64]) -> u64
+    ensures { λ r. ⌜ r ≡ refusal (now (state .entry)) ⌝ }
+{
+    if state.len() < layout::state_len() {
+        return 1;
+    }
+    if consistent::consistent(state) { 0 } else { 2 }
+}
+
+// The same, and 4 for a cell that is out of range.
+fn cell_refused(state: &[u64], cell: CellId) -> u64
+    ensures { λ r. ⌜ r ≡ cellRefusal (now (state .entry)) cell ⌝ }
+{
+    let no = refused(state);
+    if no != 0 {
+        return no;
+    }
+    if component::in_range(cell.coord) {
+        0
+    } else {
+        4
+    }
+}
+
+// The words of the entities.
+fn entity_words(state: &[u64]) -> &[u64]
+    requires { ⌜ longEnough (now state) ≡ true ⌝ }
+    ensures { λ r. ⌜ now r ≡ entityWords (now (state .entry)) ⌝ }
+{
+    &state[8..20488]
+}
+
+// The words of the occupied cells.
+fn cell_words(state: &[u64]) -> &[u64]
+    requires { ⌜ longEnough (now state) ≡ true ⌝ }
+    ensures { λ r. ⌜ now r ≡ cellWords (now (state .entry)) ⌝ }
+{
+    &state[20488..51208]
+}
+
+// The words of the newly occupied cells.
+fn occupied_words(state: &[u64]) -> &[u64]
+    requires { ⌜ longEnough (now state) ≡ true ⌝ }
+    ensures { λ r. ⌜ now r ≡ occupiedWords (now (state .entry)) ⌝ }
+{
+    &state[51208..55304]
+}
+
+// The words of the newly emptied cells.
+fn emptied_words(state: &[u64]) -> &[u64]
+    requires { ⌜ longEnough (now state) ≡ true ⌝ }
+    ensures { λ r. ⌜ now r ≡ emptiedWords (now (state .entry)) ⌝ }
+{
+    &state[55304..59400]
+}
+
+// The words of the cells with an id.
+fn id_words(state: &[u64]) -> &[u64]
+    requires { ⌜ longEnough (now state) ≡ true ⌝ }
+    ensures { λ r. ⌜ now r ≡ idWords (now (state .entry)) ⌝ }
+{
+    &state[59400..64520]
+}
+
+// The words of the groups.
+fn group_words(state: &[u64]) -> &[u64]
+    requires { ⌜ longEnough (now state) ≡ true ⌝ }
+    ensures { λ r. ⌜ now r ≡ groupWords (now (state .entry)) ⌝ }
+{
+    &state[64520..73736]
+}
+
+// A word of the header.
+fn count_at(state: &[u64], k: usize) -> usize
+    requires { ⌜ (longEnough (now state) ≡ true) × (k < 8) ⌝ }
+    ensures { λ r. ⌜ r ≡ getD (now (state .entry)) k 0 ⌝ }
+{
+    state[k] as usize
+}
+
+// Where an entity stands, by the rows of the entities.
+fn find_entity(rows: &[u64], n: usize, entity: u64) -> Where
+    requires { ⌜ isTable1 5 n (now rows) ≡ true ⌝ }
+    ensures { λ r. ⌜ r ≡ whereFrom (get eqb (entitiesIn n (now (rows .entry))) entity) ⌝ }
+{
+    let p = table::find1(rows, 5, n, entity);
+    match p {
+        Place::Found(i) => {
+            let c = table::cell_at(rows, 5 * i + 1);
+            Where::Found(component::cell_id(c))
+        }
+        Place::Missing(_) => Where::NotFound,
+    }
+}
+
+// Where an entity stands.
+pub fn where_is(state: &[u64], entity: u64) -> Where
+    ensures { λ r. ⌜ r ≡ whereOf (now (state .entry)) entity ⌝ }
+{
+    let no = refused(state);
+    if no != 0 {
+        return Where::Refused(no);
+    }
+    let rows = entity_words(state);
+    let n = count_at(state, 0);
+    find_entity(rows, n, entity)
+}
+
+// The id of a cell, by the rows of the cells with an id.
+fn find_id(rows: &[u64], n: usize, c: Cell) -> IdOf
+    requires { ⌜ isTable4 5 n (now rows) ≡ true ⌝ }
+    ensures { λ r. ⌜ r ≡ idFrom (get same (idsIn n (now (rows .entry))) c) ⌝ }
+{
+    let p = table::find4(rows, 5, n, c);
+    match p {
+        Place::Found(i) => IdOf::Found(rows[5 * i + 4]),
+        Place::Missing(_) => IdOf::NotFound,
+    }
+}
+
+// The id of a cell.
+pub fn id_of(state: &[u64], cell: CellId) -> IdOf
+    ensures { λ r. ⌜ r ≡ idOf (now (state .entry)) cell ⌝ }
+{
+    let no = cell_refused(state, cell);
+    if no != 0 {
+        return IdOf::Refused(no);
+    }
+    let rows = id_words(state);
+    let n = count_at(state, 4);
+    find_id(rows, n, component::stored(cell))
+}
+
+// A group by id, by the rows of the groups.
+fn find_group(rows: &[u64], n: usize, id: u64) -> GroupOf
+    requires { ⌜ isTable1 9 n (now rows) ≡ true ⌝ }
+    ensures { λ r. ⌜ r ≡ groupFrom (get eqb (groupsIn n (now (rows .entry))) id) ⌝ }
+{
+    let p = table::find1(rows, 9, n, id);
+    match p {
+        Place::Found(i) => GroupOf::Found(Shown {
+            grid: rows[9 * i + 1],
+            count: rows[9 * i + 2],
+        }),
+        Place::Missing(_) => GroupOf::NotFound,
+    }
+}
+
+// A group by id.
+pub fn group(state: &[u64], id: u64) -> GroupOf
+    ensures { λ r. ⌜ r ≡ groupOf (now (state .entry)) id ⌝ }
+{
+    let no = refused(state);
+    if no != 0 {
+        return GroupOf::Refused(no);
+    }
+    let rows = group_words(state);
+    let n = count_at(state, 5);
+    find_group(rows, n, id)
+}
+
+// The corner whose words x, y, z stand from at on.
+fn corner_at(rows: &[u64], at: usize) -> [i32; 3]
+    requires { ⌜ at + 3 ≤ length (now rows) ⌝ }
+    ensures { λ r. ⌜ r ≡ unbiased (getD (now (rows .entry)) at 0) ∷ unbiased (getD (now (rows .entry)) (at + 1) 0) ∷ unbiased (getD (now (rows .entry)) (at + 2) 0) ∷ [] ⌝ }
+{
+    let c = Cell {
+        grid: 0,
+        z: rows[at + 2],
+        y: rows[at + 1],
+        x: rows[at],
+    };
+    let p = component::coord_of(c);
+    [p.x, p.y, p.z]
+}
+
+// The corners of a group, by the rows of the groups.
+fn find_corners(rows: &[u64], n: usize, id: u64) -> [[i32; 3]; 2]
+    requires { ⌜ isTable1 9 n (now rows) ≡ true ⌝ }
+    ensures { λ r. ⌜ r ≡ cornersFrom (get eqb (groupsIn n (now (rows .entry))) id) ⌝ }
+{
+    let p = table::find1(rows, 9, n, id);
+    match p {
+        Place::Found(i) => {
+            let low = corner_at(rows, 9 * i + 3);
+            let high = corner_at(rows, 9 * i + 6);
+            [low, high]
+        }
+        Place::Missing(_) => [[0i32, 0i32, 0i32], [0i32, 0i32, 0i32]],
+    }
+}
+
+// The low and the high corner of a group, x, y, z of each; zeros where there is no such group or the state is refused.
+pub fn corners(state: &[u64], id: u64) -> [[i32; 3]; 2]
+    ensures { λ r. ⌜ r ≡ cornersOf (now (state .entry)) id ⌝ }
+{
+    let no = refused(state);
+    if no != 0 {
+        return [[0i32, 0i32, 0i32], [0i32, 0i32, 0i32]];
+    }
+    let rows = group_words(state);
+    let n = count_at(state, 5);
+    find_corners(rows, n, id)
+}
+
+// A list is given if the slice for it is long enough: whether it was found, how many it holds, and the first len of words.
+fn give(found: bool, count: usize, words: &[u64], len: usize, answer: &mut [u64]) -> Listing
+    requires { ⌜ len ≤ length (now words) ⌝ }
+    ensures { λ r. ⌜ (r, now (answer .exit)) ≡ listed found count (take len (now (words .entry))) (now (answer .entry)) ⌝ }
+{
+    if answer.len() < len {
+        return Listing::TooLong(len);
+    }
+    table::write_row(answer, 0, &words[..len]);
+    if found {
+        Listing::Found(count)
+    } else {
+        Listing::NotFound(count)
+    }
+}
+
+// The keys of the groups' rows come to stand in words.
+fn keys_into(rows: &[u64], n: usize, words: &mut [u64])
+    requires { ⌜ (9 * n ≤ length (now rows)) × (n ≤ length (now words)) ⌝ }
+    ensures { λ _. ⌜ take n (now (words .exit)) ≡ keys (table1 9 n (now (rows .entry))) ⌝ }
+{
+    let mut i = 0;
+    while i < n {
+        words[i] = rows[9 * i];
+        i += 1;
+    }
+}
+
+// The ids, by the rows of the groups.
+fn give_ids(rows: &[u64], n: usize, answer: &mut [u64]) -> Listing
+    requires { ⌜ (9 * n ≤ length (now rows)) × (n ≤ 1024) ⌝ }
+    ensures { λ r. ⌜ (r, now (answer .exit)) ≡ listedNumbers (there (keys (groupsIn n (now (rows .entry))))) (now (answer .entry)) ⌝ }
+{
+    let mut words = [0u64; 4100];
+    keys_into(rows, n, &mut words);
+    give(true, n, &words, n, answer)
+}
+
+// The ids, ascending.
+pub fn ids(state: &[u64], answer: &mut [u64]) -> Listing
+    ensures { λ r. ⌜ (r, now (answer .exit)) ≡ idsOf (now (state .entry)) (now (answer .entry)) ⌝ }
+{
+    let no = refused(state);
+    if no != 0 {
+        return Listing::Refused(no);
+    }
+    let rows = group_words(state);
+    let n = count_at(state, 5);
+    give_ids(rows, n, answer)
+}
+
+// The cells of a net list's rows come to stand in words.
+fn net_into(rows: &[u64], n: usize, words: &mut [u64])
+    requires { ⌜ (4 * n ≤ length (now rows)) × (4 * n ≤ length (now words)) ⌝ }
+    ensures { λ _. ⌜ take (4 * n) (now (words .exit)) ≡ gather answerWords (netIn n (now (rows .entry))) ⌝ }
+{
+    let mut i = 0;
+    while i < n {
+        let c = table::cell_at(rows, 4 * i);
+        flood::write_cell(words, 4 * i, c);
+        i += 1;
+    }
+}
+
+// A net list, by its rows.
+fn give_net(rows: &[u64], n: usize, answer: &mut [u64]) -> Listing
+    requires { ⌜ (4 * n ≤ length (now rows)) × (n ≤ 1024) ⌝ }
+    ensures { λ r. ⌜ (r, now (answer .exit)) ≡ listedCells (there (netIn n (now (rows .entry)))) (now (answer .entry)) ⌝ }
+{
+    let mut words = [0u64; 4100];
+    net_into(rows, n, &mut words);
+    give(true, n, &words, 4 * n, answer)
+}
+
+// The newly occupied cells, ascending.
+pub fn newly_occupied(state: &[u64], answer: &mut [u64]) -> Listing
+    ensures { λ r. ⌜ (r, now (answer .exit)) ≡ occupiedOf (now (state .entry)) (now (answer .entry)) ⌝ }
+{
+    let no = refused(state);
+    if no != 0 {
+        return Listing::Refused(no);
+    }
+    let rows = occupied_words(state);
+    let n = count_at(state, 2);
+    give_net(rows, n, answer)
+}
+
+// The newly emptied cells, ascending.
+pub fn newly_emptied(state: &[u64], answer: &mut [u64]) -> Listing
+    ensures { λ r. ⌜ (r, now (answer .exit)) ≡ emptiedOf (now (state .entry)) (now (answer .entry)) ⌝ }
+{
+    let no = refused(state);
+    if no != 0 {
+        return Listing::Refused(no);
+    }
+    let rows = emptied_words(state);
+    let n = count_at(state, 3);
+    give_net(rows, n, answer)
+}
+
+// The entities whose rows have the cell c come to stand in words; the answer is how many.
+fn entities_into(rows: &[u64], n: usize, c: Cell, words: &mut [u64]) -> usize
+    requires { ⌜ (5 * n ≤ length (now rows)) × (n ≤ length (now words)) ⌝ }
+    ensures { λ r. ⌜ (r ≤ n) × (take r (now (words .exit)) ≡ standingIn (entitiesIn n (now (rows .entry))) c) ⌝ }
+{
+    let mut k = 0;
+    let mut i = 0;
+    while i < n {
+        if component::same_cell(c, table::cell_at(rows, 5 * i + 1)) {
+            words[k] = rows[5 * i];
+            k += 1;
+            i += 1;
+        } else {
+            i += 1;
+        }
+    }
+    k
+}
+
+// The entities of a cell, by the rows of the entities; the cell is occupied if there are any.
+fn give_entities(rows: &[u64], n: usize, c: Cell, answer: &mut [u64]) -> Listing
+    requires { ⌜ (5 * n ≤ length (now rows)) × (n ≤ 4096) ⌝ }
+    ensures { λ r. ⌜ (r, now (answer .exit)) ≡ listedNumbers (anyOf (standingIn (entitiesIn n (now (rows .entry))) c)) (now (answer .entry)) ⌝ }
+{
+    let mut words = [0u64; 4100];
+    let k = entities_into(rows, n, c, &mut words);
+    give(k != 0, k, &words, k, answer)
+}
+
+// The entities of a cell, ascending.
+pub fn entities_in(state: &[u64], cell: CellId, answer: &mut [u64]) -> Listing
+    ensures { λ r. ⌜ (r, now (answer .exit)) ≡ entitiesOf (now (state .entry)) cell (now (answer .entry)) ⌝ }
+{
+    let no = cell_refused(state, cell);
+    if no != 0 {
+        return Listing::Refused(no);
+    }
+    let rows = entity_words(state);
+    let n = count_at(state, 0);
+    give_entities(rows, n, component::stored(cell), answer)
+}
+
+// A cell and its list, by the rows of the occupied cells.
+fn give_nearby(cells: &[u64], n: usize, c: Cell, answer: &mut [u64]) -> Listing
+    requires { ⌜ Cells (now cells) n (cellsIn n (now cells)) ⌝ }
+    ensures { λ r. ⌜ (r, now (answer .exit)) ≡ listedCells (nearbyBy (having (cellsIn n (now (cells .entry)))) c) (now (answer .entry)) ⌝ }
+{
+    let mut words = [0u64; 4100];
+    let p = table::find4(cells, 30, n, c);
+    match p {
+        Place::Found(i) => {
+            let k = flood::nearby_into(cells, n, i, &mut words);
+            give(true, k, &words, 4 * k, answer)
+        }
+        Place::Missing(_) => give(false, 0, &words, 0, answer),
+    }
+}
+
+// A cell, then its list in list order.
+pub fn nearby(state: &[u64], cell: CellId, answer: &mut [u64]) -> Listing
+    ensures { λ r. ⌜ (r, now (answer .exit)) ≡ nearbyOf (now (state .entry)) cell (now (answer .entry)) ⌝ }
+{
+    let no = cell_refused(state, cell);
+    if no != 0 {
+        return Listing::Refused(no);
+    }
+    let rows = cell_words(state);
+    let n = count_at(state, 1);
+    give_nearby(rows, n, component::stored(cell), answer)
+}
+
+// Whether two numbers are at most r apart.
+fn are_apart(r: u64, m: u64, n: u64) -> bool
+    ensures { λ t. ⌜ t ≡ apart r m n ⌝ }
+{
+    if m <= n { n - m <= r } else { m - n <= r }
+}
+
+// Whether d is of c's grid, at most r from it on each axis, and another cell.
+fn is_beside(r: u64, c: Cell, d: Cell) -> bool
+    ensures { λ t. ⌜ t ≡ beside r c d ⌝ }
+{
+    let g = d.grid == c.grid;
+    let z = are_apart(r, c.z, d.z);
+    let y = are_apart(r, c.y, d.y);
+    let x = are_apart(r, c.x, d.x);
+    let same = component::same_cell(c, d);
+    g & (z & (y & (x & !same)))
+}
+
+// The occupied cells beside c come to stand in words behind the first from cells; the answer is how many stand there then.
+fn beside_into(cells: &[u64], n: usize, c: Cell, r: u64, words: &mut [u64], from: usize) -> usize
+    requires { ⌜ (30 * n ≤ length (now cells)) × (4 * (from + n) ≤ length (now words)) ⌝ }
+    ensures { λ k. ⌜ (k ≤ from + n) × (take (4 * k) (now (words .exit)) ≡ take (4 * from) (now (words .entry)) ++ gather answerWords (keep (beside r c) (keys (table4 30 n (now (cells .entry)))))) ⌝ }
+{
+    let mut k = from;
+    let mut i = 0;
+    while i < n {
+        let d = table::cell_at(cells, 30 * i);
+        if is_beside(r, c, d) {
+            flood::write_cell(words, 4 * k, d);
+            k += 1;
+            i += 1;
+        } else {
+            i += 1;
+        }
+    }
+    k
+}
+
+// The centre if it is occupied, then the occupied cells beside it, by the rows of the occupied cells.
+fn give_cube(cells: &[u64], n: usize, c: Cell, radius: u8, answer: &mut [u64]) -> Listing
+    requires { ⌜ Cells (now cells) n (cellsIn n (now cells)) × (cellInRange c ≡ true) × (n ≤ 1024) ⌝ }
+    ensures { λ r. ⌜ (r, now (answer .exit)) ≡ listedCells (cubeBy (having (cellsIn n (now (cells .entry)))) c radius) (now (answer .entry)) ⌝ }
+{
+    let mut words = [0u64; 4100];
+    let p = table::find4(cells, 30, n, c);
+    match p {
+        Place::Found(_) => {
+            flood::write_cell(&mut words, 0, c);
+            let k = beside_into(cells, n, c, radius as u64, &mut words, 1);
+            give(true, k, &words, 4 * k, answer)
+        }
+        Place::Missing(_) => {
+            let k = beside_into(cells, n, c, radius as u64, &mut words, 0);
+            give(false, k, &words, 4 * k, answer)
+        }
+    }
+}
+
+// The centre first, then its neighbours of a radius in order, occupied ones only.
+pub fn cube(state: &[u64], cell: CellId, radius: u8, answer: &mut [u64]) -> Listing
+    ensures { λ r. ⌜ (r, now (answer .exit)) ≡ cubeOf (now (state .entry)) cell radius (now (answer .entry)) ⌝ }
+{
+    let no = cell_refused(state, cell);
+    if no != 0 {
+        return Listing::Refused(no);
+    }
+    let rows = cell_words(state);
+    let n = count_at(state, 1);
+    give_cube(rows, n, component::stored(cell), radius, answer)
+}
+
+// How many of the first count rows the depth leaves.
+fn left_by(cells: &[u64], n: usize, queue: &[u64], count: usize, seed: usize, depth: Depth) -> usize
+    requires { ⌜ Queued (now cells) n (now queue) count × (seed < n) ⌝ }
+    ensures { λ r. ⌜ r ≡ length (cutAt (depthOf depth) (rowCell (now (cells .entry)) seed) (cellsOfRows (now (cells .entry)) (now (queue .entry)) count)) ⌝ }
+{
+    match depth {
+        Depth::Whole => count,
+        Depth::AtMost(d) => flood::depth_cut(cells, n, queue, count, seed, d),
+    }
+}
+
+// The smaller of a number of cells and the budget.
+fn least(left: usize, budget: u64) -> usize
+    ensures { λ r. ⌜ r ≡ min budget left ⌝ }
+{
+    if left as u64 <= budget {
+        left
+    } else {
+        budget as usize
+    }
+}
+
+// The flood from a row that is there, with rows to mark and to queue.
+fn flood_over(
+    cells: &[u64],
+    n: usize,
+    seed: usize,
+    depth: Depth,
+    budget: u64,
+    marks: &mut [u64],
+    queue: &mut [u64],
+    answer: &mut [u64],
+) -> Flooding
+    requires { ⌜ Floodable (now cells) n seed 1 (now marks) (now queue) × Cells (now cells) n (cellsIn n (now cells)) × (n ≤ 1024) ⌝ }
+    ensures { λ r. ⌜ (r, now (answer .exit)) ≡ flooded true (floodBy (having (cellsIn n (now (cells .entry))) .occupancy) (rowCell (now (cells .entry)) seed) (depthOf depth) budget) (now (answer .entry)) ⌝ }
+{
+    let whole = flood::flood_rows(cells, n, seed, 1, marks, queue);
+    let left = left_by(cells, n, queue, whole, seed, depth);
+    let number = least(left, budget);
+    if answer.len() < 4 * number {
+        return Flooding::TooLong(4 * number);
+    }
+    flood::flood_into(cells, n, queue, number, answer);
+    let was_all = left as u64 <= budget;
+    Flooding::Found(Visited { number, was_all })
+}
+
+// The flood from a row that is there.
+fn flood_from(
+    cells: &[u64],
+    n: usize,
+    seed: usize,
+    depth: Depth,
+    budget: u64,
+    answer: &mut [u64],
+) -> Flooding
+    requires { ⌜ Cells (now cells) n (cellsIn n (now cells)) × (seed < n) × (n ≤ 1024) ⌝ }
+    ensures { λ r. ⌜ (r, now (answer .exit)) ≡ flooded true (floodBy (having (cellsIn n (now (cells .entry))) .occupancy) (rowCell (now (cells .entry)) seed) (depthOf depth) budget) (now (answer .entry)) ⌝ }
+{
+    let mut marks = [0u64; 1024];
+    let mut queue = [0u64; 1024];
+    flood_over(
+        cells,
+        n,
+        seed,
+        depth,
+        budget,
+        &mut marks,
+        &mut queue,
+        answer,
+    )
+}
+
+// The flood from a cell, by the rows of the occupied cells; an unoccupied seed gives nothing, and that is all of it.
+fn give_flood(
+    cells: &[u64],
+    n: usize,
+    c: Cell,
+    depth: Depth,
+    budget: u64,
+    answer: &mut [u64],
+) -> Flooding
+    requires { ⌜ Cells (now cells) n (cellsIn n (now cells)) × (n ≤ 1024) ⌝ }
+    ensures { λ r. ⌜ (r, now (answer .exit)) ≡ flooded (has same (keys (cellsIn n (now (cells .entry)))) c) (floodBy (having (cellsIn n (now (cells .entry))) .occupancy) c (depthOf depth) budget) (now (answer .entry)) ⌝ }
+{
+    let p = table::find4(cells, 30, n, c);
+    match p {
+        Place::Found(i) => flood_from(cells, n, i, depth, budget, answer),
+        Place::Missing(_) => Flooding::NotFound(Visited {
+            number: 0,
+            was_all: true,
+        }),
+    }
+}
+
+// A flood from a seed to a depth, up to a budget of cells.
+pub fn flood(state: &[u64], seed: CellId, depth: Depth, budget: u64, answer: &mut [u64]) -> Flooding
+    ensures { λ r. ⌜ (r, now (answer .exit)) ≡ floodOf (now (state .entry)) seed depth budget (now (answer .entry)) ⌝ }
+{
+    let no = cell_refused(state, seed);
+    if no != 0 {
+        return Flooding::Refused(no);
+    }
+    let rows = cell_words(state);
+    let n = count_at(state, 1);
+    give_flood(rows, n, component::stored(seed), depth, budget, answer)
+}

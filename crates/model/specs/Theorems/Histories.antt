@@ -1,0 +1,68 @@
+-- Net lists, neighbour lists, floods and corners after every history of accepted batches.
+use Prim.Native.Nat.{ℕ}
+use mathlib.Core.Path.{_≡_, sym, subst}
+use mathlib.Core.Bool.{Bool}
+use mathlib.Core.List.{List·Memᴰ as Mem}
+use mathlib.Core.Option.{some}
+use lib.Dec.{T}
+use Rattle.model.specs.Cells.{Cell, all26, touch26}
+use Rattle.model.specs.Occupancy.{Batch, occupied}
+use Rattle.model.specs.Flood.{listOf, wholeFlood}
+use Rattle.model.specs.Groups.{Group, members}
+use Rattle.model.specs.Update.{State, accepted, update}
+use Rattle.model.specs.Questions.{idOf, groupBy}
+use Rattle.model.specs.Consistent.{consistent}
+use Rattle.model.specs.Runs.{Reached}
+use Rattle.model.specs.Laws.Occupied.{Exact}
+use Rattle.model.specs.Laws.Floods.{listOf-exact}
+use Rattle.model.specs.Laws.Touching.{Touching, touching-by}
+use Rattle.model.specs.Laws.Accepted.{update-accepted}
+use Rattle.model.specs.Laws.Consistency.{Ok, ok-out}
+use Rattle.model.specs.Theorems.NetExact.{Since, net-exact}
+use Rattle.model.specs.Theorems.FloodExact.{Whole, flood-exact}
+use Rattle.model.specs.Theorems.CornersExact.{Shows, corners-exact}
+use Rattle.model.specs.Theorems.StaysConsistent.{consistent-reached}
+
+module _ (touch : Cell → Cell → Bool) (laws : Touching touch) {s : State} (r : Reached touch s) where
+  reached-consistent : T (consistent touch s)
+  reached-consistent = consistent-reached touch laws r
+
+  reached-ok : Ok touch s
+  reached-ok = ok-out touch (laws .flip) s reached-consistent
+
+  -- The net lists of the next accepted batch are the difference that it makes.
+  pub net-reached : (b : Batch) → update touch s b .0 ≡ 0 → Since (s .occupancy) (update touch s b .1 .occupancy)
+  unfolding accepted
+  net-reached b e =
+      subst (λ (u : State). Since (s .occupancy) (u .occupancy)) (sym (update-accepted touch s b e .1))
+      (net-exact touch (laws .flip) (laws .apart) b (s .occupancy) (reached-ok .sound))
+
+  -- Each list holds each touching occupied cell once and no other.
+  pub lists-reached : (c : Cell) → Mem c (occupied (s .occupancy)) → Exact touch (occupied (s .occupancy)) c (listOf (s .occupancy .lists) c)
+  lists-reached c m = listOf-exact touch (s .occupancy) (reached-ok .sound) m
+
+  -- The whole flood of an occupied seed visits exactly the cells joined to it, each once.
+  pub flood-reached : (seed : Cell) → Mem seed (occupied (s .occupancy)) → Whole touch (occupied (s .occupancy)) seed (wholeFlood (s .occupancy) seed)
+  flood-reached = flood-exact touch (s .occupancy) (reached-ok .sound)
+
+  -- The group of an id that a cell has shows exactly the cells with that id.
+  pub corners-reached : (a : Cell) (g : ℕ) → idOf s a ≡ some g → (k : Group) × (groupBy s g ≡ some k) × Shows (members (s .groups .ids) g) k
+  corners-reached = corners-exact touch laws s reached-consistent
+
+-- All 26 offsets give a touching.
+abbrev laws26 : Touching touch26
+laws26 = touching-by all26 tt
+
+-- For all 26.
+module _ {s : State} (r : Reached touch26 s) where
+  pub net-26 : (b : Batch) → update touch26 s b .0 ≡ 0 → Since (s .occupancy) (update touch26 s b .1 .occupancy)
+  net-26 = net-reached touch26 laws26 r
+
+  pub lists-26 : (c : Cell) → Mem c (occupied (s .occupancy)) → Exact touch26 (occupied (s .occupancy)) c (listOf (s .occupancy .lists) c)
+  lists-26 = lists-reached touch26 laws26 r
+
+  pub flood-26 : (seed : Cell) → Mem seed (occupied (s .occupancy)) → Whole touch26 (occupied (s .occupancy)) seed (wholeFlood (s .occupancy) seed)
+  flood-26 = flood-reached touch26 laws26 r
+
+  pub corners-26 : (a : Cell) (g : ℕ) → idOf s a ≡ some g → (k : Group) × (groupBy s g ≡ some k) × Shows (members (s .groups .ids) g) k
+  corners-26 = corners-reached touch26 laws26 r

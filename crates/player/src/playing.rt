@@ -1,0 +1,220 @@
+// The batches of a script are played, and the yard is told after each.
+use crate::reading::Ending;
+use crate::reading::Events;
+use crate::reading::Reader;
+use crate::reading::first_reader;
+use crate::reading::gather;
+use crate::reading::offset;
+use crate::writing::Line;
+use crate::writing::flush;
+use crate::writing::put;
+use fresh::fresh;
+use table::write_row;
+use yard::update;
+ghost use Prim.Native.Nat.{_+_, _*_, _≤_};
+ghost use lib.ListN.{length};
+ghost use Rattle.player.specs.Places.{Counts, Plays};
+
+// Where the tables that are told begin in a state.
+const OCCUPIED: usize = 51208;
+
+const EMPTIED: usize = 55304;
+
+const IDS: usize = 59400;
+
+// Where reading and writing stand between two batches, the number of the next batch, and whether there may be one.
+pub struct Progress {
+    pub reader: Reader,
+    pub number: u64,
+    pub used: usize,
+    pub going: bool,
+}
+
+// A header's word as a number of rows.
+fn rows(n: u64) -> usize
+    ensures { λ r. ⌜ r ≤ 1024 ⌝ }
+{
+    if n < 1024 { n as usize } else { 1024 }
+}
+
+// A stored coordinate, which is 2^31 above the one meant, as a word in two's complement.
+fn axis(n: u64) -> u64 {
+    std::num::wrapping_sub_u64(n, 2_147_483_648)
+}
+
+// The line of a newly occupied cell, or of a newly emptied one, whose row stands at at.
+fn net_line(state: &[u64], at: usize, is_entered: bool) -> Line
+    requires { ⌜ at + 4 ≤ length (now state) ⌝ }
+{
+    let grid = state[at];
+    let z = axis(state[at + 1]);
+    let y = axis(state[at + 2]);
+    let x = axis(state[at + 3]);
+    if is_entered {
+        Line::Entered(grid, x, y, z)
+    } else {
+        Line::Left(grid, x, y, z)
+    }
+}
+
+// The line of a cell with an id, whose row stands at at.
+fn id_line(state: &[u64], at: usize) -> Line
+    requires { ⌜ at + 5 ≤ length (now state) ⌝ }
+{
+    let grid = state[at];
+    let z = axis(state[at + 1]);
+    let y = axis(state[at + 2]);
+    let x = axis(state[at + 3]);
+    Line::Cell(grid, x, y, z, state[at + 4])
+}
+
+// The lines of the n rows of a net list, which stand from a place on.
+fn put_net(
+    state: &[u64],
+    from: usize,
+    n: usize,
+    is_entered: bool,
+    output: &mut [u8],
+    used: usize,
+) -> usize
+    requires { ⌜ (from + 4 * n ≤ length (now state)) × (used ≤ length (now output)) ⌝ }
+    ensures { λ r. ⌜ r ≤ length (now (output .entry)) ⌝ }
+{
+    let mut u = used;
+    let mut i = 0;
+    while i < n {
+        let line = net_line(state, from + 4 * i, is_entered);
+        u = put(output, u, line);
+        i += 1;
+    }
+    u
+}
+
+// The lines of the n cells with an id, whose rows stand from a place on.
+fn put_ids(state: &[u64], from: usize, n: usize, output: &mut [u8], used: usize) -> usize
+    requires { ⌜ (from + 5 * n ≤ length (now state)) × (used ≤ length (now output)) ⌝ }
+    ensures { λ r. ⌜ r ≤ length (now (output .entry)) ⌝ }
+{
+    let mut u = used;
+    let mut i = 0;
+    while i < n {
+        let line = id_line(state, from + 5 * i);
+        u = put(output, u, line);
+        i += 1;
+    }
+    u
+}
+
+// The lines of a batch: the first alone where it is refused, else those of both net lists and of all cells too.
+fn answer(state: &[u64], output: &mut [u8], used: usize, number: u64, code: u64) -> usize
+    requires { ⌜ (73736 ≤ length (now state)) × (used ≤ length (now output)) ⌝ }
+    ensures { λ r. ⌜ r ≤ length (now (output .entry)) ⌝ }
+{
+    let entered = rows(state[2]);
+    let left = rows(state[3]);
+    let cells = rows(state[4]);
+    let a = put(output, used, Line::Batch(number, code));
+    if code != 0 {
+        return a;
+    }
+    let b = put_net(state, OCCUPIED, entered, true, output, a);
+    let c = put_net(state, EMPTIED, left, false, output, b);
+    put_ids(state, IDS, cells, output, c)
+}
+
+// The first n removals and behind them the first m moves, of five words each, come to the front of a batch's words.
+fn join(batch: &mut [u64], removals: &[u64], n: usize, moves: &[u64], m: usize)
+    requires { ⌜ (n ≤ length (now removals)) × (5 * m ≤ length (now moves)) × (n + 5 * m ≤ length (now batch)) ⌝ }
+{
+    write_row(batch, 0, &removals[..n]);
+    write_row(batch, n, &moves[..5 * m]);
+}
+
+// The batch updates the state, its removals first; one of which not all events are kept is refused.
+fn run(state: &mut [u64], removals: &[u64; 1024], moves: &[u64; 5120], v: Events) -> u64
+    requires { ⌜ Counts v ⌝ }
+{
+    if v.over {
+        return 3;
+    }
+    let n = v.removals;
+    let m = v.moves;
+    let mut batch = [0u64; 6144];
+    join(&mut batch, removals, n, moves, m);
+    update(state, &batch, n as u64, m as u64)
+}
+
+// The line after which a script stops where its input ends: `open batch` where events were read, else `end`.
+fn last_line(v: Events) -> Line {
+    if v.removals > 0 || v.moves > 0 {
+        Line::Open
+    } else {
+        Line::End
+    }
+}
+
+// A batch is read and answered.
+fn turn(state: &mut [u64], input: &mut [u8], output: &mut [u8], p: Progress) -> Progress
+    requires { ⌜ (73736 ≤ length (now state)) × Plays (length (now input)) (length (now output)) p ⌝ }
+    ensures { λ r. ⌜ Plays (length (now (input .entry))) (length (now (output .entry))) r ⌝ }
+{
+    let mut removals = [0u64; 1024];
+    let mut moves = [0u64; 5120];
+    let number = p.number;
+    let used = p.used;
+    let g = gather(input, &mut removals, &mut moves, p.reader);
+    let reader = g.reader;
+    let events = g.events;
+    let ending = g.ending;
+    match ending {
+        Ending::Run => {
+            let code = run(state, &removals, &moves, events);
+            Progress {
+                reader,
+                number: std::num::wrapping_add_u64(number, 1),
+                used: answer(state, output, used, number, code),
+                going: true,
+            }
+        },
+        Ending::Bad => Progress {
+            reader,
+            number,
+            used: put(output, used, Line::Wrong(offset(reader))),
+            going: false,
+        },
+        Ending::Reading | Ending::Out => Progress {
+            reader,
+            number,
+            used: put(output, used, last_line(events)),
+            going: false,
+        },
+    }
+}
+
+// All batches are read and answered. The turns are counted down from a number that no input uses up, so the loop is seen to end.
+fn play_all(state: &mut [u64], input: &mut [u8], output: &mut [u8])
+    requires { ⌜ 73736 ≤ length (now state) ⌝ }
+{
+    let mut p = Progress {
+        reader: first_reader(),
+        number: 1,
+        used: 0,
+        going: true,
+    };
+    let mut turns = u64::MAX;
+    while turns > 0 && p.going {
+        p = turn(state, input, output, p);
+        turns -= 1;
+    }
+    let used = p.used;
+    flush(output, used);
+}
+
+// The script on standard input is played in a fresh yard, whose first id is 0.
+pub fn play() {
+    let mut state = [0u64; 73736];
+    let mut input = [0u8; 65536];
+    let mut output = [0u8; 65536];
+    fresh(&mut state, 0);
+    play_all(&mut state, &mut input, &mut output);
+}
