@@ -1,0 +1,50 @@
+-- A slice for what is told that is too short; else what the call answers is told.
+use mathlib.Core.Path.{_∙_, ap}
+use borrow.Author.Needs.{needs}
+use Rattle.ask.specs.Answers.{entitiesOf}
+use Rattle.component.specs.declared.CellId.{CellId}
+use Rattle.capmarrow.specs.Told.{cellOf, listingTold}
+use Rattle.capmarrow.specs.Tells.{cell-given, filled-short, filled-long}
+use Rattle.capmarrow.proofs.capmarrow_entities_in.Statement.{statement}
+use Rattle.capmarrow.proofs.capmarrow_entities_in.Tie as tie
+
+returns : tie.Need-returns
+returns c =
+    let s = c .before .before .before .before in
+    filled-short 2 listingTold (entitiesOf (s .args .state .now) (cellOf (s .args .grid) (s .args .x) (s .args .y) (s .args .z)) (s .args .answer .now)) (s .args .told .now) (s .args .answer .now) (c .if1 .taken)
+
+cell-requires : tie.Need-cell-requires
+cell-requires c κs = search needs
+
+entities-in-requires : tie.Need-entities-in-requires
+entities-in-requires c κs = search needs
+
+tell-listing-requires : tie.Need-tell-listing-requires
+tell-listing-requires c κs = search needs
+
+same-length : tie.Need-same-length
+same-length c = search needs
+
+same-length-2 : tie.Need-same-length-2
+same-length-2 c = search needs
+
+returns-2 : tie.Need-returns-2
+returns-2 c =
+    let t = c .before .before in
+    let f = c .before .before .before .before .before .before in
+    let s = c .before .before .before .before .before .before .before .before .before .before .before .before .before in
+    filled-long 2 listingTold (entitiesOf (s .args .state .now) (cellOf (s .args .grid) (s .args .x) (s .args .y) (s .args .z)) (s .args .answer .now)) (s .args .told .now) (s .args .answer .now) (c .before .before .before .before .before .before .before .before .before .if1 .left)
+    (f .entities-in .result) (f .entities-in .last .1 .1 .0) (f .entities-in .ensures ∙ ap (λ (d : CellId). entitiesOf (s .args .state .now) d (s .args .answer .now)) (f .before .before .cell .ensures ∙ cell-given (s .args .grid) (s .fits .x) (s .fits .y) (s .fits .z)))
+    (t .tell-listing .result, t .tell-listing .last .0) (t .tell-listing .ensures)
+
+pub capmarrow-entities-in-spec : {M : Type 1} → statement M
+capmarrow-entities-in-spec =
+    tie.close
+    (tie.spec
+    returns
+    cell-requires
+    entities-in-requires
+    tell-listing-requires
+    same-length
+    same-length-2
+    returns-2)
