@@ -1,7 +1,13 @@
 // The calls for programs in C and Rust: numbers and slices alone, each slice a pointer and its length. Every function gives back
 // document 01's number; what else a question tells stands in `told`, and is written only where the number is 0 or 8.
-use ask::{Depth, Flooding, GroupOf, IdOf, Listing, Where};
-use component::{CellCoord, CellId};
+use ask::Depth;
+use ask::Flooding;
+use ask::GroupOf;
+use ask::IdOf;
+use ask::Listing;
+use ask::Where;
+use component::CellCoord;
+use component::CellId;
 ghost use mathlib.Core.Path.{_≡_};
 ghost use mathlib.Core.List.{List};
 ghost use Prim.Native.Nat.{ℕ, _≤_};
@@ -156,7 +162,17 @@ fn tell_group(told: &mut [u64], a: GroupOf, corners: [[i32; 3]; 2]) -> u64
         GroupOf::Found(s) => {
             let low = corners[0];
             let high = corners[1];
-            let words = [1, s.grid, s.count, word(low[0]), word(low[1]), word(low[2]), word(high[0]), word(high[1]), word(high[2])];
+            let words = [
+                1,
+                s.grid,
+                s.count,
+                word(low[0]),
+                word(low[1]),
+                word(low[2]),
+                word(high[0]),
+                word(high[1]),
+                word(high[2]),
+            ];
             tell(told, &words);
             0
         }
@@ -179,7 +195,12 @@ pub extern "C" fn capmarrow_fresh(state: &mut [u64], first_id: u64) -> u64
 
 // A batch of removals, one word each, and moves, five words each, updates the state.
 #[no_mangle]
-pub extern "C" fn capmarrow_update(state: &mut [u64], batch: &[u64], removals: u64, moves: u64) -> u64
+pub extern "C" fn capmarrow_update(
+    state: &mut [u64],
+    batch: &[u64],
+    removals: u64,
+    moves: u64,
+) -> u64
     ensures { λ r. ⌜ _≡_ {A = ℕ × List ℕ} (r, now (state .exit)) (updateOf (now (state .entry)) (now (batch .entry)) removals moves) ⌝ }
 {
     yard::update(state, batch, removals, moves)
@@ -198,7 +219,14 @@ pub extern "C" fn capmarrow_where_is(state: &[u64], entity: u64, told: &mut [u64
 
 // The id of a cell. Told: found, id.
 #[no_mangle]
-pub extern "C" fn capmarrow_id_of(state: &[u64], grid: u64, x: i32, y: i32, z: i32, told: &mut [u64]) -> u64
+pub extern "C" fn capmarrow_id_of(
+    state: &[u64],
+    grid: u64,
+    x: i32,
+    y: i32,
+    z: i32,
+    told: &mut [u64],
+) -> u64
     ensures { λ r. ⌜ _≡_ {A = ℕ × List ℕ} (r, now (told .exit)) (tells 2 (idTold (idOf (now (state .entry)) (cellOf grid x y z))) (now (told .entry))) ⌝ }
 {
     if told.len() < 2 {
@@ -234,7 +262,11 @@ pub extern "C" fn capmarrow_ids(state: &[u64], answer: &mut [u64], told: &mut [u
 
 // The newly occupied cells, ascending, four words each: grid, x, y, z. Told: found, count.
 #[no_mangle]
-pub extern "C" fn capmarrow_newly_occupied(state: &[u64], answer: &mut [u64], told: &mut [u64]) -> u64
+pub extern "C" fn capmarrow_newly_occupied(
+    state: &[u64],
+    answer: &mut [u64],
+    told: &mut [u64],
+) -> u64
     ensures { λ r. ⌜ _≡_ {A = (ℕ × List ℕ) × List ℕ} ((r, now (told .exit)), now (answer .exit)) (tellsFilled 2 listingTold (occupiedOf (now (state .entry)) (now (answer .entry))) (now (told .entry)) (now (answer .entry))) ⌝ }
 {
     if told.len() < 2 {
@@ -246,7 +278,11 @@ pub extern "C" fn capmarrow_newly_occupied(state: &[u64], answer: &mut [u64], to
 
 // The newly emptied cells, ascending, four words each. Told: found, count.
 #[no_mangle]
-pub extern "C" fn capmarrow_newly_emptied(state: &[u64], answer: &mut [u64], told: &mut [u64]) -> u64
+pub extern "C" fn capmarrow_newly_emptied(
+    state: &[u64],
+    answer: &mut [u64],
+    told: &mut [u64],
+) -> u64
     ensures { λ r. ⌜ _≡_ {A = (ℕ × List ℕ) × List ℕ} ((r, now (told .exit)), now (answer .exit)) (tellsFilled 2 listingTold (emptiedOf (now (state .entry)) (now (answer .entry))) (now (told .entry)) (now (answer .entry))) ⌝ }
 {
     if told.len() < 2 {
@@ -258,7 +294,15 @@ pub extern "C" fn capmarrow_newly_emptied(state: &[u64], answer: &mut [u64], tol
 
 // The entities of a cell, ascending. Told: found, count.
 #[no_mangle]
-pub extern "C" fn capmarrow_entities_in(state: &[u64], grid: u64, x: i32, y: i32, z: i32, answer: &mut [u64], told: &mut [u64]) -> u64
+pub extern "C" fn capmarrow_entities_in(
+    state: &[u64],
+    grid: u64,
+    x: i32,
+    y: i32,
+    z: i32,
+    answer: &mut [u64],
+    told: &mut [u64],
+) -> u64
     ensures { λ r. ⌜ _≡_ {A = (ℕ × List ℕ) × List ℕ} ((r, now (told .exit)), now (answer .exit)) (tellsFilled 2 listingTold (entitiesOf (now (state .entry)) (cellOf grid x y z) (now (answer .entry))) (now (told .entry)) (now (answer .entry))) ⌝ }
 {
     if told.len() < 2 {
@@ -270,7 +314,15 @@ pub extern "C" fn capmarrow_entities_in(state: &[u64], grid: u64, x: i32, y: i32
 
 // A cell, then its list in list order, four words each. Told: found, count.
 #[no_mangle]
-pub extern "C" fn capmarrow_nearby(state: &[u64], grid: u64, x: i32, y: i32, z: i32, answer: &mut [u64], told: &mut [u64]) -> u64
+pub extern "C" fn capmarrow_nearby(
+    state: &[u64],
+    grid: u64,
+    x: i32,
+    y: i32,
+    z: i32,
+    answer: &mut [u64],
+    told: &mut [u64],
+) -> u64
     ensures { λ r. ⌜ _≡_ {A = (ℕ × List ℕ) × List ℕ} ((r, now (told .exit)), now (answer .exit)) (tellsFilled 2 listingTold (nearbyOf (now (state .entry)) (cellOf grid x y z) (now (answer .entry))) (now (told .entry)) (now (answer .entry))) ⌝ }
 {
     if told.len() < 2 {
@@ -282,7 +334,16 @@ pub extern "C" fn capmarrow_nearby(state: &[u64], grid: u64, x: i32, y: i32, z: 
 
 // The centre first, then its neighbours of a radius, occupied ones only, four words each. Told: found, count.
 #[no_mangle]
-pub extern "C" fn capmarrow_cube(state: &[u64], grid: u64, x: i32, y: i32, z: i32, radius: u8, answer: &mut [u64], told: &mut [u64]) -> u64
+pub extern "C" fn capmarrow_cube(
+    state: &[u64],
+    grid: u64,
+    x: i32,
+    y: i32,
+    z: i32,
+    radius: u8,
+    answer: &mut [u64],
+    told: &mut [u64],
+) -> u64
     ensures { λ r. ⌜ _≡_ {A = (ℕ × List ℕ) × List ℕ} ((r, now (told .exit)), now (answer .exit)) (tellsFilled 2 listingTold (cubeOf (now (state .entry)) (cellOf grid x y z) radius (now (answer .entry))) (now (told .entry)) (now (answer .entry))) ⌝ }
 {
     if told.len() < 2 {
@@ -294,12 +355,29 @@ pub extern "C" fn capmarrow_cube(state: &[u64], grid: u64, x: i32, y: i32, z: i3
 
 // A flood, to a depth if it is deep, up to a budget of cells, four words each. Told: found, number, whether that was all.
 #[no_mangle]
-pub extern "C" fn capmarrow_flood(state: &[u64], grid: u64, x: i32, y: i32, z: i32, deep: bool, depth: i32, budget: u64, answer: &mut [u64], told: &mut [u64]) -> u64
+pub extern "C" fn capmarrow_flood(
+    state: &[u64],
+    grid: u64,
+    x: i32,
+    y: i32,
+    z: i32,
+    deep: bool,
+    depth: i32,
+    budget: u64,
+    answer: &mut [u64],
+    told: &mut [u64],
+) -> u64
     ensures { λ r. ⌜ _≡_ {A = (ℕ × List ℕ) × List ℕ} ((r, now (told .exit)), now (answer .exit)) (tellsFilled 3 floodingTold (floodOf (now (state .entry)) (cellOf grid x y z) (depthGiven deep depth) budget (now (answer .entry))) (now (told .entry)) (now (answer .entry))) ⌝ }
 {
     if told.len() < 3 {
         return 1;
     }
-    let a = ask::flood(state, cell(grid, x, y, z), depth_given(deep, depth), budget, answer);
+    let a = ask::flood(
+        state,
+        cell(grid, x, y, z),
+        depth_given(deep, depth),
+        budget,
+        answer,
+    );
     tell_flooding(told, a)
 }

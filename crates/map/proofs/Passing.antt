@@ -1,4 +1,4 @@
--- What an entity that enters or leaves asks of the tables, and how it leaves them.
+-- What an entity that enters or leaves a cell asks of the tables of cells, and how it leaves them.
 use Prim.Native.Nat.{ℕ, suc, _+_, _-_, _≤_, _<_}
 use native.Mathlib.Numerals.{add-one}
 use native.Mathlib.Omega.{arith}
@@ -15,22 +15,19 @@ use Rattle.model.specs.Laws.Members.{each-length}
 use Rattle.model.specs.Laws.Sorted.{Asc}
 use Rattle.model.specs.Laws.Tables.{keys-length}
 use Rattle.model.specs.Laws.Occupied.{not-occupied, at-occupied, occupied-asc}
-use Rattle.layout.specs.Rows.{entityRow, idRow, entitiesImage, idsImage}
-use Rattle.layout.specs.RowLaws.{entities-wide, ids-wide}
-use Rattle.table.specs.Rows.{number, cell, cellWords, table1, stored1, table4, stored4, hasRoom4}
-use Rattle.table.specs.Kinds.{number-lawful, cell-lawful}
+use Rattle.layout.specs.Rows.{idRow, idsImage}
+use Rattle.layout.specs.RowLaws.{ids-wide}
+use Rattle.table.specs.Rows.{cell, table4, stored4, hasRoom4}
+use Rattle.table.specs.Kinds.{cell-lawful}
 use Rattle.table.specs.Next.{room-there, put-next, drop-next}
 use Rattle.map.specs.declared.Counts.{Counts}
 use Rattle.map.specs.Told.{Shows}
-use Rattle.map.specs.Held.{standing, crowdOf, counted, Placed, Stored, Held, Opens, Closes, Enters, Leaves}
+use Rattle.map.specs.Held.{standing, crowdOf, counted, Placed, Stored, Peopled, Opens, Closes, EntersCell, LeavesCell}
 use Rattle.map.specs.EachLaws.{keys-each, put-each, drop-each, image-shows, shows-image, shows-count, shows-fit}
 use Rattle.map.specs.CrowdLaws.{stands-counted, standing-few, crowd-keys, crowd-counted, crowd-enter, crowd-leave, crowd-close, last-leaves, other-stays}
 use Rattle.map.specs.PlacedLaws.{enter-placed, leave-placed}
 
--- The words behind the key of an entity's row, and of a crowd's.
-abbrev stood : ℕ → Cell → List ℕ
-stood e c = cellWords c
-
+-- The words behind the key of a crowd's row.
 abbrev number-of : Cell → ℕ → List ℕ
 number-of c k = k ∷ []
 
@@ -39,23 +36,7 @@ crowd-length : (o : Occupancy) → Placed o → length (each idRow (crowdOf o)) 
 crowd-length o ok =
     each-length idRow (crowdOf o) ∙ sym (keys-length (crowdOf o)) ∙ ap length (crowd-keys touch26 o (ok .sound)) ∙ keys-length (o .lists)
 
--- The counts of the lists do not look at that of the entities.
-pub stored-but : (cells occ emp : List ℕ) (n : Counts) (a : ℕ) (o : Occupancy) → Stored cells occ emp n o
-    → Stored cells occ emp (record { entities = a; cells = n .cells; occupied = n .occupied; emptied = n .emptied }) o
-stored-but cells occ emp n a o x =
-    record {
-      lists = x .lists;
-      opened = x .opened;
-      emptied = x .emptied;
-      cells-count = x .cells-count;
-      occupied-count = x .occupied-count;
-      emptied-count = x .emptied-count;
-      cells-fit = x .cells-fit;
-      occupied-fit = x .occupied-fit;
-      emptied-fit = x .emptied-fit;
-    }
-
--- Nor do the lists look at the entities.
+-- The lists do not look at the entities.
 stored-with : (cells occ emp : List ℕ) (n : Counts) (t : List (ℕ × Cell)) (o : Occupancy) → Stored cells occ emp n o → Stored cells occ emp n (withEntities t o)
 stored-with cells occ emp n t o x =
     record {
@@ -70,30 +51,20 @@ stored-with cells occ emp n t o x =
       emptied-fit = x .emptied-fit;
     }
 
--- Words that show all tables hold the map.
-hold : (ents cells crowd occ emp : List ℕ) (r : Counts) (o : Occupancy) → Placed o → Shows number 5 (r .entities) ents (each entityRow (o .entities))
-    → (j : ℕ) → Shows cell 5 j crowd (each idRow (crowdOf o)) → Stored cells occ emp r o → Held ents cells crowd occ emp r o
-unfolding entitiesImage idsImage
-hold ents cells crowd occ emp r o ok x j y z =
+-- Words that show all tables of cells.
+people : (cells crowd occ emp : List ℕ) (r : Counts) (o : Occupancy) → Placed o → (j : ℕ) → Shows cell 5 j crowd (each idRow (crowdOf o)) → Stored cells occ emp r o
+    → Peopled cells crowd occ emp r o
+unfolding idsImage
+people cells crowd occ emp r o ok j y z =
     let e : j ≡ r .cells = shows-count cell cell-lawful 5 j crowd (each idRow (crowdOf o)) y ∙ crowd-length o ok ∙ sym (z .cells-count) in
     record {
-      entities-is = shows-image number number-lawful 5 (r .entities) ents (each entityRow (o .entities)) x;
-      entities-count = shows-count number number-lawful 5 (r .entities) ents (each entityRow (o .entities)) x ∙ each-length entityRow (o .entities);
-      entities-fit = shows-fit number number-lawful 5 (r .entities) ents (each entityRow (o .entities)) x;
       crowd-is = shows-image cell cell-lawful 5 j crowd (each idRow (crowdOf o)) y;
       crowd-fit = omega (arith, shows-fit cell cell-lawful 5 j crowd (each idRow (crowdOf o)) y);
       stored = z;
       placed = ok;
     }
 
-module _ (ents cells crowd occ emp : List ℕ) (n : Counts) (o : Occupancy) (h : Held ents cells crowd occ emp n o) where
-  -- The words show the entities.
-  pub ents-shows : Shows number 5 (n .entities) ents (each entityRow (o .entities))
-  unfolding entitiesImage
-  ents-shows =
-      image-shows number number-lawful 5 (n .entities) ents (each entityRow (o .entities)) (h .entities-is) (h .entities-count ∙ sym (each-length entityRow (o .entities))) (omega arith)
-      (entities-wide (o .entities)) (subst (Asc ltb) (sym (keys-each stood (o .entities))) (h .placed .sound .asc))
-
+module _ (cells crowd occ emp : List ℕ) (n : Counts) (o : Occupancy) (h : Peopled cells crowd occ emp n o) where
   -- The words show the crowd.
   pub crowd-shows : Shows cell 5 (n .cells) crowd (each idRow (crowdOf o))
   unfolding idsImage
@@ -105,119 +76,103 @@ module _ (ents cells crowd occ emp : List ℕ) (n : Counts) (o : Occupancy) (h :
   pub finds-standing : (k : ℕ) (c : Cell) → k ≡ counted (get same (table4 5 (n .cells) crowd) c) → k ≡ standing (o .entities) c
   finds-standing k c e = e ∙ crowd-counted touch26 o (h .placed .sound) (table4 5 (n .cells) crowd) c (crowd-shows .is)
 
-module _ (ents cells crowd occ emp : List ℕ) (n : Counts) (e : ℕ) (c : Cell) (o : Occupancy) where
-  module _ (h : Enters ents cells crowd occ emp n e c o) where
+module _ (cells crowd occ emp : List ℕ) (n : Counts) (e : ℕ) (c : Cell) (o : Occupancy) where
+  module _ (h : EntersCell cells crowd occ emp n e c o) where
     -- The number that stand in the cell fits, with one more.
-    pub enters-fits : (k : ℕ) → k ≡ counted (get same (table4 5 (n .cells) crowd) c) → k + 1 ≤ length ents
-    enters-fits k q =
-        omega (arith, finds-standing ents cells crowd occ emp n o (h .held) k c q, standing-few (o .entities) c, h .held .entities-count, h .space .entities-room)
+    pub enters-fits : (k : ℕ) → k ≡ counted (get same (table4 5 (n .cells) crowd) c) → k + 1 ≤ n .entities
+    enters-fits k q = omega (arith, finds-standing cells crowd occ emp n o (h .peopled) k c q, standing-few (o .entities) c, h .counts)
 
     -- Nobody stands there.
     pub enters-nobody : (k : ℕ) → k ≡ counted (get same (table4 5 (n .cells) crowd) c) → k ≡ 0 → standsIn (o .entities) c ≡ false
     enters-nobody k q z =
-        let f : standing (o .entities) c ≡ 0 = sym (finds-standing ents cells crowd occ emp n o (h .held) k c q) ∙ z in
+        let f : standing (o .entities) c ≡ 0 = sym (finds-standing cells crowd occ emp n o (h .peopled) k c q) ∙ z in
         stands-counted (o .entities) c ∙ false-of (ltb 0 (standing (o .entities) c)) (nltb-of 0 (standing (o .entities) c) (omega arith))
 
     -- Somebody stands there.
     pub enters-somebody : (k : ℕ) → k ≡ counted (get same (table4 5 (n .cells) crowd) c) → (k ≡ 0 → ⊥) → standsIn (o .entities) c ≡ true
     enters-somebody k q z =
-        let f : k ≡ standing (o .entities) c = finds-standing ents cells crowd occ emp n o (h .held) k c q in
+        let f : k ≡ standing (o .entities) c = finds-standing cells crowd occ emp n o (h .peopled) k c q in
         let g : 0 < standing (o .entities) c = omega (arith, z) in
         stands-counted (o .entities) c ∙ true-of (ltb 0 (standing (o .entities) c)) (lt→ltb 0 (standing (o .entities) c) g)
 
     -- The cell can open.
-    pub enters-opens : (a k : ℕ) → k ≡ counted (get same (table4 5 (n .cells) crowd) c) → k ≡ 0
-        → Opens cells occ emp (record { entities = a; cells = n .cells; occupied = n .occupied; emptied = n .emptied }) c o
-    enters-opens a k q z =
+    pub enters-opens : (k : ℕ) → k ≡ counted (get same (table4 5 (n .cells) crowd) c) → k ≡ 0 → Opens cells occ emp n c o
+    enters-opens k q z =
         record {
-          placed = h .held .placed;
-          stored = stored-but cells occ emp n a o (h .held .stored);
-          vacant = not-occupied touch26 o (h .held .placed .sound) (T-false (enters-nobody k q z));
+          placed = h .peopled .placed;
+          stored = h .peopled .stored;
+          vacant = not-occupied touch26 o (h .peopled .placed .sound) (T-false (enters-nobody k q z));
           ranged = h .ranged;
-          space = record { cells-room = h .space .opening .cells-room; occupied-room = h .space .opening .occupied-room };
+          space = h .opening;
         }
 
     -- The entity has entered.
-    pub entered : (ents′ cells′ crowd′ occ′ emp′ : List ℕ) (a j k : ℕ) (r : Counts) → r .entities ≡ a
-        → (a, ents′) ≡ stored1 (length ents) (put ltb e (cellWords c) (table1 5 (n .entities) ents))
+    pub entered : (cells′ crowd′ occ′ emp′ : List ℕ) (j k : ℕ) (r : Counts)
         → k ≡ counted (get same (table4 5 (n .cells) crowd) c)
         → (j, crowd′) ≡ stored4 (length crowd) (put below c ((k + 1) ∷ []) (table4 5 (n .cells) crowd))
         → (b : Bool) → standsIn (o .entities) c ≡ b → Stored cells′ occ′ emp′ r (cond b o (openCell touch26 c o))
-        → Held ents′ cells′ crowd′ occ′ emp′ r (enter touch26 e c o)
-    entered ents′ cells′ crowd′ occ′ emp′ a j k r f p q u b i x =
-        let s = ents-shows ents cells crowd occ emp n o (h .held) in
-        let t = crowd-shows ents cells crowd occ emp n o (h .held) in
-        let y = put-next number 5 number-lawful (n .entities) ents (s .table) (length ents) a ents′ e (cellWords c) refl p in
+        → Peopled cells′ crowd′ occ′ emp′ r (enter touch26 e c o)
+    entered cells′ crowd′ occ′ emp′ j k r q u b i x =
+        let t = crowd-shows cells crowd occ emp n o (h .peopled) in
         let z = put-next cell 5 cell-lawful (n .cells) crowd (t .table) (length crowd) j crowd′ c ((k + 1) ∷ []) refl u in
-        let g : k + 1 ≡ suc (standing (o .entities) c) = add-one k ∙ ap suc (finds-standing ents cells crowd occ emp n o (h .held) k c q) in
-        hold ents′ cells′ crowd′ occ′ emp′ r (enter touch26 e c o) (enter-placed o (h .held .placed) e c (h .free) (h .ranged))
-        (subst (λ (m : ℕ). Shows number 5 m ents′ (each entityRow (put ltb e c (o .entities)))) (sym f)
-        (record { table = y .0; is = y .1 ∙ ap (put ltb e (cellWords c)) (s .is) ∙ put-each stood ltb e c (o .entities) }))
-        j
+        let g : k + 1 ≡ suc (standing (o .entities) c) = add-one k ∙ ap suc (finds-standing cells crowd occ emp n o (h .peopled) k c q) in
+        people cells′ crowd′ occ′ emp′ r (enter touch26 e c o) (enter-placed o (h .peopled .placed) e c (h .free) (h .ranged)) j
         (record {
           table = z .0;
           is = z .1 ∙ (λ l. put below c (g l ∷ []) (t .is l)) ∙ put-each number-of below c (suc (standing (o .entities) c)) (crowdOf o)
-              ∙ ap (each idRow) (sym (crowd-enter touch26 o (h .held .placed .sound) e c (h .free)));
+              ∙ ap (each idRow) (sym (crowd-enter touch26 o (h .peopled .placed .sound) e c (h .free)));
         })
         (stored-with cells′ occ′ emp′ r (put ltb e c (o .entities)) (cond (standsIn (o .entities) c) o (openCell touch26 c o))
         (subst (λ (v : Bool). Stored cells′ occ′ emp′ r (cond v o (openCell touch26 c o))) (sym i) x))
 
-  module _ (h : Leaves ents cells crowd occ emp n e c o) where
+  module _ (h : LeavesCell cells crowd occ emp n e c o) where
     -- The cell is occupied.
     leaves-taken : Mem c (occupied o)
-    leaves-taken = at-occupied touch26 o (h .held .placed .sound) (h .stands)
+    leaves-taken = at-occupied touch26 o (h .peopled .placed .sound) (h .stands)
 
     -- The cell can close.
-    pub leaves-closes : (a : ℕ) → Closes cells occ emp (record { entities = a; cells = n .cells; occupied = n .occupied; emptied = n .emptied }) c o
-    leaves-closes a = record { placed = h .held .placed; stored = stored-but cells occ emp n a o (h .held .stored); taken = leaves-taken; space = h .space }
+    pub leaves-closes : Closes cells occ emp n c o
+    leaves-closes = record { placed = h .peopled .placed; stored = h .peopled .stored; taken = leaves-taken; space = h .space }
 
     -- The number of the cell can be put.
     pub leaves-room : hasRoom4 5 (n .cells) crowd c ≡ true
     leaves-room =
-        let t = crowd-shows ents cells crowd occ emp n o (h .held) in
+        let t = crowd-shows cells crowd occ emp n o (h .peopled) in
         room-there cell 5 cell-lawful (n .cells) crowd
-        (subst (λ (l : List Cell). Mem c l) (sym (ap keys (t .is) ∙ keys-each number-of (crowdOf o) ∙ crowd-keys touch26 o (h .held .placed .sound))) leaves-taken)
+        (subst (λ (l : List Cell). Mem c l) (sym (ap keys (t .is) ∙ keys-each number-of (crowdOf o) ∙ crowd-keys touch26 o (h .peopled .placed .sound))) leaves-taken)
 
-    module _ (ents′ cells′ crowd′ occ′ emp′ : List ℕ) (a j k : ℕ) (r : Counts) (f : r .entities ≡ a)
-        (p : (a, ents′) ≡ stored1 (length ents) (dropKey eqb e (table1 5 (n .entities) ents))) (q : k ≡ counted (get same (table4 5 (n .cells) crowd) c)) where
-      ents-gone : Shows number 5 (r .entities) ents′ (each entityRow (dropKey eqb e (o .entities)))
-      ents-gone =
-          let s = ents-shows ents cells crowd occ emp n o (h .held) in
-          let y = drop-next number 5 number-lawful (n .entities) ents (s .table) (length ents) a ents′ e p in
-          subst (λ (m : ℕ). Shows number 5 m ents′ (each entityRow (dropKey eqb e (o .entities)))) (sym f)
-          (record { table = y .0; is = y .1 ∙ ap (dropKey eqb e) (s .is) ∙ drop-each stood eqb e (o .entities) })
-
+    module _ (cells′ crowd′ occ′ emp′ : List ℕ) (j k : ℕ) (r : Counts) (q : k ≡ counted (get same (table4 5 (n .cells) crowd) c)) where
       -- The last entity has left, and the cell is closed.
       pub left-last : k ≤ 1 → (j, crowd′) ≡ stored4 (length crowd) (dropKey same c (table4 5 (n .cells) crowd)) → Stored cells′ occ′ emp′ r (closeCell touch26 c o)
-          → Held ents′ cells′ crowd′ occ′ emp′ r (leave touch26 e c o)
+          → Peopled cells′ crowd′ occ′ emp′ r (leave touch26 e c o)
       left-last l u x =
-          let t = crowd-shows ents cells crowd occ emp n o (h .held) in
-          let m : standing (o .entities) c ≤ 1 = omega (arith, finds-standing ents cells crowd occ emp n o (h .held) k c q) in
+          let t = crowd-shows cells crowd occ emp n o (h .peopled) in
+          let m : standing (o .entities) c ≤ 1 = omega (arith, finds-standing cells crowd occ emp n o (h .peopled) k c q) in
           let z = drop-next cell 5 cell-lawful (n .cells) crowd (t .table) (length crowd) j crowd′ c u in
-          hold ents′ cells′ crowd′ occ′ emp′ r (leave touch26 e c o) (leave-placed o (h .held .placed) e c (h .stands)) ents-gone j
+          people cells′ crowd′ occ′ emp′ r (leave touch26 e c o) (leave-placed o (h .peopled .placed) e c (h .stands)) j
           (record {
             table = z .0;
             is = z .1 ∙ ap (dropKey same c) (t .is) ∙ drop-each number-of same c (crowdOf o)
-                ∙ ap (each idRow) (sym (crowd-close touch26 o (h .held .placed .sound) e c (h .stands) m));
+                ∙ ap (each idRow) (sym (crowd-close touch26 o (h .peopled .placed .sound) e c (h .stands) m));
           })
           (stored-with cells′ occ′ emp′ r (dropKey eqb e (o .entities)) (cond (standsIn (dropKey eqb e (o .entities)) c) o (closeCell touch26 c o))
-          (subst (λ (v : Bool). Stored cells′ occ′ emp′ r (cond v o (closeCell touch26 c o))) (sym (last-leaves touch26 o (h .held .placed .sound) e c (h .stands) m)) x))
+          (subst (λ (v : Bool). Stored cells′ occ′ emp′ r (cond v o (closeCell touch26 c o))) (sym (last-leaves touch26 o (h .peopled .placed .sound) e c (h .stands) m)) x))
 
       -- The entity has left, and others stay.
       pub left-others : 1 < k → (j, crowd′) ≡ stored4 (length crowd) (put below c ((k - 1) ∷ []) (table4 5 (n .cells) crowd)) → Stored cells′ occ′ emp′ r o
-          → Held ents′ cells′ crowd′ occ′ emp′ r (leave touch26 e c o)
+          → Peopled cells′ crowd′ occ′ emp′ r (leave touch26 e c o)
       left-others l u x =
-          let t = crowd-shows ents cells crowd occ emp n o (h .held) in
-          let w = finds-standing ents cells crowd occ emp n o (h .held) k c q in
+          let t = crowd-shows cells crowd occ emp n o (h .peopled) in
+          let w = finds-standing cells crowd occ emp n o (h .peopled) k c q in
           let m : standing (o .entities) c ≡ suc (suc (k - 2)) = omega arith in
           let g : k - 1 ≡ suc (k - 2) = omega arith in
           let v : 1 < standing (o .entities) c = omega arith in
           let z = put-next cell 5 cell-lawful (n .cells) crowd (t .table) (length crowd) j crowd′ c ((k - 1) ∷ []) refl u in
-          hold ents′ cells′ crowd′ occ′ emp′ r (leave touch26 e c o) (leave-placed o (h .held .placed) e c (h .stands)) ents-gone j
+          people cells′ crowd′ occ′ emp′ r (leave touch26 e c o) (leave-placed o (h .peopled .placed) e c (h .stands)) j
           (record {
             table = z .0;
             is = z .1 ∙ (λ i. put below c (g i ∷ []) (t .is i)) ∙ put-each number-of below c (suc (k - 2)) (crowdOf o)
-                ∙ ap (each idRow) (sym (crowd-leave touch26 o (h .held .placed .sound) e c (h .stands) (k - 2) m));
+                ∙ ap (each idRow) (sym (crowd-leave touch26 o (h .peopled .placed .sound) e c (h .stands) (k - 2) m));
           })
           (stored-with cells′ occ′ emp′ r (dropKey eqb e (o .entities)) (cond (standsIn (dropKey eqb e (o .entities)) c) o (closeCell touch26 c o))
-          (subst (λ (b : Bool). Stored cells′ occ′ emp′ r (cond b o (closeCell touch26 c o))) (sym (other-stays touch26 o (h .held .placed .sound) e c (h .stands) v)) x))
+          (subst (λ (b : Bool). Stored cells′ occ′ emp′ r (cond b o (closeCell touch26 c o))) (sym (other-stays touch26 o (h .peopled .placed .sound) e c (h .stands) v)) x))

@@ -1,28 +1,25 @@
 -- What a removal or a move comes to, by where the entity stands.
-use Prim.Native.Nat.{ℕ, _+_, _≤_}
+use Prim.Native.Nat.{ℕ}
 use native.Mathlib.Omega.{arith}
 use mathlib.Core.Path.{_≡_, refl, sym, ap, _∙_}
-use mathlib.Core.Bool.{Bool, true, false, cond, not}
+use mathlib.Core.Bool.{Bool, true, false, cond}
 use mathlib.Core.List.{List, [], _∷_, _++_}
 use mathlib.Core.Option.{Option, none, some}
 use lib.Dec.{eqb}
-use lib.ListN.{length}
-use Rattle.model.specs.Lists.{get, dropKey, run, without}
+use Rattle.model.specs.Lists.{get, run}
 use Rattle.model.specs.Cells.{Cell, same, cellInRange, touch26}
-use Rattle.model.specs.Occupancy.{Occupancy, occupied, standsIn, withEntities, leavesFrom, isAt, enters, pass, enter, leave, closeCell}
+use Rattle.model.specs.Occupancy.{Occupancy, leavesFrom, isAt, enters, pass, enter, leave}
 use Rattle.model.specs.Laws.Tests.{T-true}
 use Rattle.model.specs.Laws.Orders.{numbers}
-use Rattle.model.specs.Laws.Members.{keep-shorter}
-use Rattle.model.specs.Laws.Tables.{free-of, get-drop-self, keys-length}
-use Rattle.model.specs.Laws.Occupied.{occupied-leave}
+use Rattle.model.specs.Laws.Tables.{free-of}
 use Rattle.table.specs.Rows.{cellWords, table1}
 use Rattle.map.specs.declared.Counts.{Counts}
 use Rattle.map.specs.declared.Stand.{Stand}
 use Rattle.map.specs.declared.Stand.the-variants.{Inside, Nowhere}
 use Rattle.map.specs.Stands.{standOf, whereOf}
-use Rattle.map.specs.Held.{Held, Enters, Leaves, RoomToEnter, RoomToLeave, removalOf, moveOf}
+use Rattle.map.specs.Held.{Held, Enters, Leaves, Moves, RoomToEnter, RoomToLeave, removalOf, moveOf}
 use Rattle.map.specs.EachLaws.{under, get-each}
-use Rattle.map.proofs.Passing.{ents-shows}
+use Rattle.map.proofs.Moving.{ents-shows}
 
 -- What a lookup of words finds is what a lookup of the entities finds.
 found-where : (k : ℕ) (m : Option Cell) → standOf (under (λ (e : ℕ) (c : Cell). cellWords c) k m) ≡ whereOf m
@@ -80,47 +77,16 @@ module _ (o : Occupancy) (e : ℕ) where
     pub move-unknown : get eqb (o .entities) e ≡ none → enter touch26 e c o ≡ moveOf e c o
     move-unknown p = λ i. moveBy c (isAt (sym p i) c) (sym p i)
 
-module _ (o : Occupancy) (e : ℕ) (d : Cell) where
-  -- To leave makes no list longer.
-  opened-shorter : length (leave touch26 e d o .newlyOccupied) ≤ length (o .newlyOccupied)
-  opened-shorter = go (standsIn (dropKey eqb e (o .entities)) d)
-    where
-      go : (b : Bool) → length (withEntities (dropKey eqb e (o .entities)) (cond b o (closeCell touch26 d o)) .newlyOccupied) ≤ length (o .newlyOccupied)
-      go true = omega arith
-      go false = keep-shorter (λ c. not (same d c)) (o .newlyOccupied)
-
-  lists-shorter : length (leave touch26 e d o .lists) ≤ length (o .lists)
-  lists-shorter =
-      omega (arith, keys-length (leave touch26 e d o .lists), keys-length (o .lists), ap length (occupied-leave touch26 e d o), go (standsIn (dropKey eqb e (o .entities)) d))
-    where
-      go : (b : Bool) → length (cond b (occupied o) (without same d (occupied o))) ≤ length (occupied o)
-      go true = omega arith
-      go false = keep-shorter (λ c. not (same d c)) (occupied o)
-
-module _ (ents cells crowd occ emp : List ℕ) (n : Counts) (o : Occupancy) (h : Held ents cells crowd occ emp n o) (e : ℕ) (d : Cell) where
+module _ (ents cells crowd occ emp : List ℕ) (n : Counts) (o : Occupancy) (h : Held ents cells crowd occ emp n o) (e : ℕ) where
   -- An entity that stands in d can leave it.
-  pub can-leave : get eqb (o .entities) e ≡ some d → RoomToLeave emp n → Leaves ents cells crowd occ emp n e d o
-  can-leave p r = record { held = h; stands = record { is = p }; space = r }
+  pub can-leave : (d : Cell) → get eqb (o .entities) e ≡ some d → RoomToLeave emp n → Leaves ents cells crowd occ emp n e d o
+  can-leave d p r = record { held = h; stands = record { is = p }; space = r }
 
-  -- An unknown entity can enter.
-  pub can-enter : (c : Cell) → get eqb (o .entities) e ≡ none → cellInRange c ≡ true → RoomToEnter ents cells crowd occ n → Enters ents cells crowd occ emp n e c o
-  can-enter c p t r = record { held = h; free = free-of (o .entities) e p; ranged = t; space = r }
+  module _ (c : Cell) (t : cellInRange c ≡ true) (r : RoomToEnter ents cells crowd occ n) where
+    -- An unknown entity can enter.
+    pub can-enter : get eqb (o .entities) e ≡ none → Enters ents cells crowd occ emp n e c o
+    can-enter p = record { held = h; free = free-of (o .entities) e p; ranged = t; space = r }
 
-  -- An entity that has left can enter.
-  pub can-return : (c : Cell) (ents′ cells′ crowd′ occ′ emp′ : List ℕ) (r : Counts) → cellInRange c ≡ true → RoomToEnter ents cells crowd occ n
-      → length ents′ ≡ length ents → length cells′ ≡ length cells → length crowd′ ≡ length crowd → length occ′ ≡ length occ
-      → Held ents′ cells′ crowd′ occ′ emp′ r (leave touch26 e d o) → Enters ents′ cells′ crowd′ occ′ emp′ r e c (leave touch26 e d o)
-  can-return c ents′ cells′ crowd′ occ′ emp′ r t s l1 l2 l3 l4 x =
-      let a : r .entities ≤ n .entities = omega (arith, x .entities-count, h .entities-count, keep-shorter (λ (p : ℕ × Cell). not (eqb e (p .0))) (o .entities)) in
-      let b : r .cells ≤ n .cells = omega (arith, x .stored .cells-count, h .stored .cells-count, lists-shorter o e d) in
-      let f : r .occupied ≤ n .occupied = omega (arith, x .stored .occupied-count, h .stored .occupied-count, opened-shorter o e d) in
-      record {
-        held = x;
-        free = free-of (dropKey eqb e (o .entities)) e (get-drop-self numbers (o .entities) e);
-        ranged = t;
-        space = record {
-          entities-room = omega (arith, s .entities-room);
-          crowd-room = omega (arith, s .crowd-room);
-          opening = record { cells-room = omega (arith, s .opening .cells-room); occupied-room = omega (arith, s .opening .occupied-room) };
-        };
-      }
+    -- An entity that stands in d can move.
+    pub can-move : (d : Cell) → get eqb (o .entities) e ≡ some d → RoomToLeave emp n → Moves ents cells crowd occ emp n e d c o
+    can-move d p l = record { leaving = can-leave d p l; ranged = t; space = r }

@@ -15,7 +15,7 @@ use Rattle.model.specs.Laws.Tests.{cond-yes, cond-no, T-true, T-false, true-of,
 use Rattle.model.specs.Laws.Orders.{Ordered, numbers, cells, same-of, differ, is-or}
 use Rattle.model.specs.Laws.Members.{keep-each, keep-shorter, each-in, each-out, each-ext, each-each, each-same, keep-out, has-of, of-has}
 use Rattle.model.specs.Laws.Sorted.{Asc, add-out, add-in, add-self, add-asc, add-old}
-use Rattle.model.specs.Laws.Tables.{At, Free, asc-mem-at, key-at, key-free, free-key, of-free, get-put-self, get-put-other, get-drop-other, get-drop-self, free-of, put-asc, drop-asc, mem-put-out, put-self, put-in, table-equal, table-same}
+use Rattle.model.specs.Laws.Tables.{At, Free, asc-mem-at, key-at, key-free, free-key, of-free, get-put-self, get-put-other, get-drop-other, get-drop-self, free-of, put-asc, drop-asc, put-old, mem-put-out, put-self, put-in, table-equal, table-same}
 use Rattle.model.specs.Laws.Occupied.{Sound, occupied-asc, occupied-enter, occupied-leave, occupied-stands, at-occupied}
 use Rattle.layout.specs.Rows.{idRow}
 use Rattle.map.specs.Held.{standing, tallied, tally, crowdOf, counted}
@@ -74,12 +74,17 @@ pub standing-few : (t : List (ℕ × Cell)) (c : Cell) → standing t c ≤ leng
 unfolding standing
 standing-few t c = keep-shorter (λ (p : ℕ × Cell). same c (p .1)) t
 
--- A row that is left out and put in again.
-put-dropped : {K W : Type 0} {eq lt : K → K → Bool} (laws : Ordered eq lt) (t : List (K × W)) (k : K) (v : W) → Asc lt (keys t) → At eq t k v → put lt k v (dropKey eq k t) ≡ t
-put-dropped {K} {W} {eq} {lt} laws t k v s p =
-    table-same laws (put lt k v (dropKey eq k t)) t (put-asc laws (dropKey eq k t) k v (drop-asc laws k t s)) s
-    (λ a. ⊎-elim (λ f. ap (get eq (put lt k v (dropKey eq k t))) f ∙ get-put-self laws (dropKey eq k t) k v ∙ sym (p .is) ∙ ap (get eq t) (sym f))
-    (λ n. get-put-other laws (dropKey eq k t) k v a n ∙ get-drop-other laws t k a n) (is-or laws a k))
+module _ {K W : Type 0} {eq lt : K → K → Bool} (laws : Ordered eq lt) (t : List (K × W)) (k : K) (v : W) (s : Asc lt (keys t)) where
+  -- To leave out a row and put in another under its key is to put that one in its place.
+  pub put-over : put lt k v (dropKey eq k t) ≡ put lt k v t
+  put-over =
+      table-same laws (put lt k v (dropKey eq k t)) (put lt k v t) (put-asc laws (dropKey eq k t) k v (drop-asc laws k t s)) (put-asc laws t k v s)
+      (λ a. ⊎-elim (λ f. ap (get eq (put lt k v (dropKey eq k t))) f ∙ get-put-self laws (dropKey eq k t) k v ∙ sym (get-put-self laws t k v) ∙ ap (get eq (put lt k v t)) (sym f))
+      (λ n. get-put-other laws (dropKey eq k t) k v a n ∙ get-drop-other laws t k a n ∙ sym (get-put-other laws t k v a n)) (is-or laws a k))
+
+  -- A row that is left out and put in again.
+  put-dropped : At eq t k v → put lt k v (dropKey eq k t) ≡ t
+  put-dropped p = put-over ∙ put-old laws t k v s p
 
 module _ (t : List (ℕ × Cell)) (e : ℕ) (c : Cell) (s : Asc ltb (keys t)) (p : At eqb t e c) where
   gone : Mem e (keys (dropKey eqb e t)) → ⊥

@@ -1,5 +1,5 @@
 -- How the map stands in memory.
-use Prim.Native.Nat.{ℕ, suc, _*_, _≤_}
+use Prim.Native.Nat.{ℕ, suc, _*_, _≤_, _<_}
 use mathlib.Core.Path.{_≡_}
 use mathlib.Core.Bool.{true}
 use mathlib.Core.List.{List, List·Memᴰ as Mem}
@@ -63,6 +63,13 @@ pub record Held (ents cells crowd occ emp : List ℕ) (n : Counts) (o : Occupanc
   pub stored : Stored cells occ emp n o
   pub placed : Placed o
 
+-- The map in words but for the entities: the occupied cells, how many stand in each, and both net lists.
+pub record Peopled (cells crowd occ emp : List ℕ) (n : Counts) (o : Occupancy) : Type 0 where
+  pub crowd-is : crowd ≡ idsImage (length crowd) (crowdOf o)
+  pub crowd-fit : 5 * n .cells ≤ length crowd
+  pub stored : Stored cells occ emp n o
+  pub placed : Placed o
+
 -- There is space for one cell more, with its list, and for one newly occupied cell more.
 pub record RoomToOpen (cells occ : List ℕ) (n : Counts) : Type 0 where
   pub cells-room : 30 * suc (n .cells) ≤ length cells
@@ -105,6 +112,27 @@ pub record Leaves (ents cells crowd occ emp : List ℕ) (n : Counts) (e : ℕ) (
   pub held : Held ents cells crowd occ emp n o
   pub stands : At eqb (o .entities) e c
   pub space : RoomToLeave emp n
+
+-- The entity e, which stands nowhere and is counted, can enter c, which is in range.
+pub record EntersCell (cells crowd occ emp : List ℕ) (n : Counts) (e : ℕ) (c : Cell) (o : Occupancy) : Type 0 where
+  pub peopled : Peopled cells crowd occ emp n o
+  pub free : Free eqb (o .entities) e
+  pub counts : length (o .entities) < n .entities
+  pub ranged : cellInRange c ≡ true
+  pub crowd-room : 5 * suc (n .cells) ≤ length crowd
+  pub opening : RoomToOpen cells occ n
+
+-- The entity e, which stands in c, can leave it.
+pub record LeavesCell (cells crowd occ emp : List ℕ) (n : Counts) (e : ℕ) (c : Cell) (o : Occupancy) : Type 0 where
+  pub peopled : Peopled cells crowd occ emp n o
+  pub stands : At eqb (o .entities) e c
+  pub space : RoomToLeave emp n
+
+-- The entity e, which stands in d, can leave it and enter c, which is in range.
+pub record Moves (ents cells crowd occ emp : List ℕ) (n : Counts) (e : ℕ) (d c : Cell) (o : Occupancy) : Type 0 where
+  pub leaving : Leaves ents cells crowd occ emp n e d o
+  pub ranged : cellInRange c ≡ true
+  pub space : RoomToEnter ents cells crowd occ n
 
 -- The occupancy after a removal of e.
 abbrev pub removalOf : ℕ → Occupancy → Occupancy

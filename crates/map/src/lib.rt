@@ -14,8 +14,8 @@ ghost use Rattle.model.specs.Cells.{touch26, cellInRange};
 ghost use Rattle.model.specs.Occupancy.{Occupancy, openCell, closeCell, enter, leave};
 ghost use Rattle.layout.specs.Rows.{neighbourOf, idsImage, entitiesIn};
 ghost use Rattle.table.specs.Moves.{over};
-ghost use Rattle.table.specs.Rows.{cell, table1, isTable1, table4, stored4, isTable4, hasRoom4};
-ghost use Rattle.map.specs.Held.{Stored, Opens, Closes, Held, Enters, Leaves, RoomToEnter, RoomToLeave, removalOf, moveOf, counted, tally};
+ghost use Rattle.table.specs.Rows.{cell, cellWords, table1, stored1, isTable1, hasRoom1, table4, stored4, isTable4, hasRoom4};
+ghost use Rattle.map.specs.Held.{Stored, Opens, Closes, Held, Peopled, Enters, EntersCell, Leaves, LeavesCell, Moves, RoomToEnter, RoomToLeave, removalOf, moveOf, counted, tally};
 ghost use Rattle.map.specs.Stands.{standOf};
 ghost use Rattle.map.specs.Told.{Shows, Squeezed, padded, stripped, revisedRow, toldOne, told, noted};
 
@@ -242,6 +242,58 @@ fn set_count(crowd: &mut [u64], m: usize, c: Cell, k: u64) -> usize
     table::put4(crowd, m, &row)
 }
 
+// One more stands in c, which opens if nobody stood there.
+fn enter_cell(
+    cells: &mut [u64],
+    crowd: &mut [u64],
+    occ: &mut [u64],
+    emp: &mut [u64],
+    n: Counts,
+    c: Cell,
+) -> Counts
+    requires { ⌜ ((e : ℕ) × (o : Occupancy) × EntersCell (now cells) (now crowd) (now occ) (now emp) n e c o) ⌝ }
+    ensures { λ r. ⌜ r .entities ≡ n .entities ⌝ }
+    ensures { λ r. ⌜ ((e : ℕ) (o : Occupancy) → EntersCell (now (cells .entry)) (now (crowd .entry)) (now (occ .entry)) (now (emp .entry)) n e c o → Peopled (now (cells .exit)) (now (crowd .exit)) (now (occ .exit)) (now (emp .exit)) r (enter touch26 e c o)) ⌝ }
+{
+    let k = how_many(crowd, n.cells, c);
+    set_count(crowd, n.cells, c, k + 1);
+    if k == 0 {
+        return insert_entry(cells, occ, emp, n, c);
+    }
+    n
+}
+
+// One fewer stands in c, which closes if nobody stays there.
+fn leave_cell(
+    cells: &mut [u64],
+    crowd: &mut [u64],
+    occ: &mut [u64],
+    emp: &mut [u64],
+    n: Counts,
+    c: Cell,
+) -> Counts
+    requires { ⌜ ((e : ℕ) × (o : Occupancy) × LeavesCell (now cells) (now crowd) (now occ) (now emp) n e c o) ⌝ }
+    ensures { λ r. ⌜ r .entities ≡ n .entities ⌝ }
+    ensures { λ r. ⌜ ((e : ℕ) (o : Occupancy) → LeavesCell (now (cells .entry)) (now (crowd .entry)) (now (occ .entry)) (now (emp .entry)) n e c o → Peopled (now (cells .exit)) (now (crowd .exit)) (now (occ .exit)) (now (emp .exit)) r (leave touch26 e c o)) ⌝ }
+{
+    let k = how_many(crowd, n.cells, c);
+    if k <= 1 {
+        table::remove4(crowd, 5, n.cells, c);
+        return remove_entry(cells, occ, emp, n, c);
+    }
+    set_count(crowd, n.cells, c, k - 1);
+    n
+}
+
+// The row of e says c; the answer is the number of rows.
+fn set_stand(ents: &mut [u64], n: usize, e: u64, c: Cell) -> usize
+    requires { ⌜ (isTable1 5 n (now ents) ≡ true) × (hasRoom1 5 n (now ents) e ≡ true) ⌝ }
+    ensures { λ r. ⌜ (r, now (ents .exit)) ≡ stored1 (length (now (ents .entry))) (put ltb e (cellWords c) (table1 5 n (now (ents .entry)))) ⌝ }
+{
+    let row = [e, c.grid, c.z, c.y, c.x];
+    table::put1(ents, n, &row)
+}
+
 // The entity, which stands nowhere, stands in c.
 pub fn insert(
     ents: &mut [u64],
@@ -256,21 +308,14 @@ pub fn insert(
     requires { ⌜ ((o : Occupancy) × Enters (now ents) (now cells) (now crowd) (now occ) (now emp) n e c o) ⌝ }
     ensures { λ r. ⌜ ((o : Occupancy) → Enters (now (ents .entry)) (now (cells .entry)) (now (crowd .entry)) (now (occ .entry)) (now (emp .entry)) n e c o → Held (now (ents .exit)) (now (cells .exit)) (now (crowd .exit)) (now (occ .exit)) (now (emp .exit)) r (enter touch26 e c o)) ⌝ }
 {
-    let m = n.cells;
-    let row = [e, c.grid, c.z, c.y, c.x];
-    let a = table::put1(ents, n.entities, &row);
-    let k = how_many(crowd, m, c);
-    set_count(crowd, m, c, k + 1);
+    let a = set_stand(ents, n.entities, e, c);
     let r = Counts {
         entities: a,
-        cells: m,
+        cells: n.cells,
         occupied: n.occupied,
         emptied: n.emptied,
     };
-    if k == 0 {
-        return insert_entry(cells, occ, emp, r, c);
-    }
-    r
+    enter_cell(cells, crowd, occ, emp, r, c)
 }
 
 // The entity, which stands in c, stands nowhere.
@@ -287,21 +332,34 @@ pub fn remove(
     requires { ⌜ ((o : Occupancy) × Leaves (now ents) (now cells) (now crowd) (now occ) (now emp) n e c o) ⌝ }
     ensures { λ r. ⌜ ((o : Occupancy) → Leaves (now (ents .entry)) (now (cells .entry)) (now (crowd .entry)) (now (occ .entry)) (now (emp .entry)) n e c o → Held (now (ents .exit)) (now (cells .exit)) (now (crowd .exit)) (now (occ .exit)) (now (emp .exit)) r (leave touch26 e c o)) ⌝ }
 {
-    let m = n.cells;
     let a = table::remove1(ents, 5, n.entities, e);
-    let k = how_many(crowd, m, c);
     let r = Counts {
         entities: a,
-        cells: m,
+        cells: n.cells,
         occupied: n.occupied,
         emptied: n.emptied,
     };
-    if k <= 1 {
-        table::remove4(crowd, 5, m, c);
-        return remove_entry(cells, occ, emp, r, c);
-    }
-    set_count(crowd, m, c, k - 1);
-    r
+    leave_cell(cells, crowd, occ, emp, r, c)
+}
+
+// The entity, which stands in d, stands in c: its row stays at its place, as to take it out and put it in again would shift all behind it twice.
+fn relocate(
+    ents: &mut [u64],
+    cells: &mut [u64],
+    crowd: &mut [u64],
+    occ: &mut [u64],
+    emp: &mut [u64],
+    n: Counts,
+    e: u64,
+    d: Cell,
+    c: Cell,
+) -> Counts
+    requires { ⌜ ((o : Occupancy) × Moves (now ents) (now cells) (now crowd) (now occ) (now emp) n e d c o) ⌝ }
+    ensures { λ r. ⌜ ((o : Occupancy) → Moves (now (ents .entry)) (now (cells .entry)) (now (crowd .entry)) (now (occ .entry)) (now (emp .entry)) n e d c o → Held (now (ents .exit)) (now (cells .exit)) (now (crowd .exit)) (now (occ .exit)) (now (emp .exit)) r (enter touch26 e c (leave touch26 e d o))) ⌝ }
+{
+    set_stand(ents, n.entities, e, c);
+    let r = leave_cell(cells, crowd, occ, emp, n, d);
+    enter_cell(cells, crowd, occ, emp, r, c)
 }
 
 // Where an entity stands.
@@ -362,8 +420,7 @@ pub fn play_move(
             if component::same_cell(c, d) {
                 return n;
             }
-            let r = remove(ents, cells, crowd, occ, emp, n, e, d);
-            insert(ents, cells, crowd, occ, emp, r, e, c)
+            relocate(ents, cells, crowd, occ, emp, n, e, d, c)
         }
         Stand::Nowhere => insert(ents, cells, crowd, occ, emp, n, e, c),
     }

@@ -1,6 +1,15 @@
 // The batch of a case is gathered, and the two calls are made.
-use crate::telling::{judged, Verdict};
-use crate::yards::{copy, difference, fill, get, put, BEFORE, KEPT, WANTED, YARD};
+use crate::telling::Verdict;
+use crate::telling::judged;
+use crate::yards::BEFORE;
+use crate::yards::KEPT;
+use crate::yards::WANTED;
+use crate::yards::YARD;
+use crate::yards::copy;
+use crate::yards::difference;
+use crate::yards::fill;
+use crate::yards::get;
+use crate::yards::put;
 use fresh::fresh;
 use yard::update;
 ghost use Prim.Native.Nat.{_≤_};
@@ -134,7 +143,13 @@ fn make_update(words: &mut [u64], batch: &[u64], s: Stand) -> u64 {
 }
 
 // The first id, and the number that is wanted.
-fn run_fresh(words: &mut [u64; 294960], numbers: &[u64; 64], s: Stand, line: u64, v: Verdict) -> Verdict {
+fn run_fresh(
+    words: &mut [u64; 294960],
+    numbers: &[u64; 64],
+    s: Stand,
+    line: u64,
+    v: Verdict,
+) -> Verdict {
     fill(words, YARD, 0);
     copy(words, YARD, BEFORE);
     let n = make_fresh(words, s.yard, numbers[0]);
@@ -142,14 +157,29 @@ fn run_fresh(words: &mut [u64; 294960], numbers: &[u64; 64], s: Stand, line: u64
 }
 
 // The number that is wanted.
-fn run_update(words: &mut [u64; 294960], batch: &[u64; 8192], numbers: &[u64; 64], s: Stand, line: u64, v: Verdict) -> Verdict {
+fn run_update(
+    words: &mut [u64; 294960],
+    batch: &[u64; 8192],
+    numbers: &[u64; 64],
+    s: Stand,
+    line: u64,
+    v: Verdict,
+) -> Verdict {
     copy(words, YARD, BEFORE);
     let n = make_update(words, batch, s);
     answered(words, n, numbers[0], line, v)
 }
 
 // What the letter says of the yard: a call; a word is changed by hand; it is kept, or put back; it is compared with the wanted state.
-pub fn call(words: &mut [u64; 294960], batch: &[u64; 8192], numbers: &[u64; 64], letter: u8, s: Stand, line: u64, v: Verdict) -> Verdict {
+pub fn call(
+    words: &mut [u64; 294960],
+    batch: &[u64; 8192],
+    numbers: &[u64; 64],
+    letter: u8,
+    s: Stand,
+    line: u64,
+    v: Verdict,
+) -> Verdict {
     match letter {
         b'f' => run_fresh(words, numbers, s, line, v),
         b'u' => run_update(words, batch, numbers, s, line, v),

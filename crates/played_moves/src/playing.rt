@@ -1,7 +1,16 @@
 // The cases on standard input are played, line by line.
-use crate::calls::{call, gather, no_events, Stand};
-use crate::lines::{byte_at, line_end, read_numbers, step_numbers};
-use crate::telling::{all_right, judged, tell, Verdict};
+use crate::calls::Stand;
+use crate::calls::call;
+use crate::calls::gather;
+use crate::calls::no_events;
+use crate::lines::byte_at;
+use crate::lines::line_end;
+use crate::lines::read_numbers;
+use crate::lines::step_numbers;
+use crate::telling::Verdict;
+use crate::telling::all_right;
+use crate::telling::judged;
+use crate::telling::tell;
 use crate::wanted::build;
 use libc::STDIN_FILENO;
 
@@ -23,13 +32,38 @@ pub struct Progress {
 // A line whose letter says nothing is wrong.
 fn known(letter: u8, line: u64, v: Verdict) -> Verdict {
     match letter {
-        b'r' | b'm' | b't' | b'b' | b'y' | b's' | b'e' | b'o' | b'n' | b'l' | b'g' | b'f' | b'u' | b'w' | b'k' | b'p' | b'=' | b'#' | b'\n' => v,
+        b'r'
+        | b'm'
+        | b't'
+        | b'b'
+        | b'y'
+        | b's'
+        | b'e'
+        | b'o'
+        | b'n'
+        | b'l'
+        | b'g'
+        | b'f'
+        | b'u'
+        | b'w'
+        | b'k'
+        | b'p'
+        | b'='
+        | b'#'
+        | b'\n' => v,
         _ => judged(v, line, 0, 1, 0),
     }
 }
 
 // What a line says is done once; the batch is empty after an update.
-fn play_step(words: &mut [u64; 294960], batch: &mut [u64; 8192], numbers: &[u64; 64], letter: u8, line: u64, r: Round) -> Round {
+fn play_step(
+    words: &mut [u64; 294960],
+    batch: &mut [u64; 8192],
+    numbers: &[u64; 64],
+    letter: u8,
+    line: u64,
+    r: Round,
+) -> Round {
     build(words, numbers, letter);
     let s = gather(batch, numbers, letter, r.stand);
     let v = call(words, batch, numbers, letter, s, line, r.verdict);
@@ -50,7 +84,14 @@ fn times(numbers: &[u64; 64]) -> u64 {
 }
 
 // What a line says is done, each time with the next numbers.
-fn play_line(words: &mut [u64; 294960], batch: &mut [u64; 8192], numbers: &mut [u64; 64], letter: u8, line: u64, r: Round) -> Round {
+fn play_line(
+    words: &mut [u64; 294960],
+    batch: &mut [u64; 8192],
+    numbers: &mut [u64; 64],
+    letter: u8,
+    line: u64,
+    r: Round,
+) -> Round {
     let n = times(numbers);
     let mut last = r;
     let mut i = 0;
@@ -91,7 +132,12 @@ fn begin(text: &[u8; 65536], p: Progress, to: usize) -> Progress {
 }
 
 // A line is read and played.
-fn turn(words: &mut [u64; 294960], batch: &mut [u64; 8192], text: &[u8; 65536], p: Progress) -> Progress {
+fn turn(
+    words: &mut [u64; 294960],
+    batch: &mut [u64; 8192],
+    text: &[u8; 65536],
+    p: Progress,
+) -> Progress {
     let at = p.at;
     let to = line_end(text, at);
     let letter = byte_at(text, at);

@@ -1,17 +1,65 @@
 // A state is built by hand: row by row, word by word, each where docs/STATE.md says that it stands.
-use crate::yards::{fill, get, put, WANTED};
+use crate::yards::WANTED;
+use crate::yards::fill;
+use crate::yards::get;
+use crate::yards::put;
 ghost use Prim.Native.Nat.{_<_};
 
 // What each word of a row is: the place of its number in the line, and 32 more for a coordinate, which is stored as x + 2^31.
 const ROWS: [u8; 49] = [
     // an entity
-    0, 1, 36, 35, 34,
+    0,
+    1,
+    36,
+    35,
+    34,
     // an occupied cell with its list
-    0, 35, 34, 33, 5, 6, 7, 8, 9, 10, 11, 12, 13, 14, 15, 16, 17, 18, 19, 20, 21, 22, 23, 24, 25, 26, 27, 28, 29, 30,
+    0,
+    35,
+    34,
+    33,
+    5,
+    6,
+    7,
+    8,
+    9,
+    10,
+    11,
+    12,
+    13,
+    14,
+    15,
+    16,
+    17,
+    18,
+    19,
+    20,
+    21,
+    22,
+    23,
+    24,
+    25,
+    26,
+    27,
+    28,
+    29,
+    30,
     // a cell with its id, and a cell alone
-    0, 35, 34, 33, 4,
+    0,
+    35,
+    34,
+    33,
+    4,
     // a group
-    0, 1, 2, 35, 36, 37, 38, 39, 40,
+    0,
+    1,
+    2,
+    35,
+    36,
+    37,
+    38,
+    39,
+    40,
 ];
 
 // A table of a state: which word of the header counts its rows, where they start, how many words a row has, and where `ROWS` has them.
@@ -25,13 +73,48 @@ pub struct Table {
 // The table that a letter names; no rows for another letter.
 fn table_of(letter: u8) -> Table {
     match letter {
-        b'e' => Table { head: 0, from: 8, width: 5, row: 0 },
-        b'o' => Table { head: 1, from: 20488, width: 30, row: 5 },
-        b'n' => Table { head: 2, from: 51208, width: 4, row: 35 },
-        b'l' => Table { head: 3, from: 55304, width: 4, row: 35 },
-        b'i' => Table { head: 4, from: 59400, width: 5, row: 35 },
-        b'g' => Table { head: 5, from: 64520, width: 9, row: 40 },
-        _ => Table { head: 7, from: 7, width: 0, row: 0 },
+        b'e' => Table {
+            head: 0,
+            from: 8,
+            width: 5,
+            row: 0,
+        },
+        b'o' => Table {
+            head: 1,
+            from: 20488,
+            width: 30,
+            row: 5,
+        },
+        b'n' => Table {
+            head: 2,
+            from: 51208,
+            width: 4,
+            row: 35,
+        },
+        b'l' => Table {
+            head: 3,
+            from: 55304,
+            width: 4,
+            row: 35,
+        },
+        b'i' => Table {
+            head: 4,
+            from: 59400,
+            width: 5,
+            row: 35,
+        },
+        b'g' => Table {
+            head: 5,
+            from: 64520,
+            width: 9,
+            row: 40,
+        },
+        _ => Table {
+            head: 7,
+            from: 7,
+            width: 0,
+            row: 0,
+        },
     }
 }
 

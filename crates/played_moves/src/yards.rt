@@ -3,8 +3,11 @@ ghost use Prim.Native.Nat.{_≤_};
 
 // The yard that is played in, what it was before a call, what it was when it was kept, and what it is wanted to be.
 pub const YARD: u64 = 0;
+
 pub const BEFORE: u64 = 73740;
+
 pub const KEPT: u64 = 147480;
+
 pub const WANTED: u64 = 221220;
 
 // One word is written, where there is one.

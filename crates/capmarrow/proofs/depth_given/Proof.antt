@@ -8,10 +8,15 @@ use Rattle.capmarrow.proofs.depth_given.Statement.{statement}
 use Rattle.capmarrow.proofs.depth_given.Tie as tie
 
 returns : tie.Need-returns
-returns c = let s = c .before in ap Depth.AtMost (toZ-ofZ (s .fits .depth)) ∙ ap (λ (b : Bool). depthGiven b (s .args .depth)) (sym (c .if1 .taken))
+returns c =
+    let s = c .before in
+    ap Depth.AtMost (toZ-ofZ (s .fits .depth))
+    ∙ ap (λ (b : Bool). depthGiven b (s .args .depth)) (sym (c .if1 .taken))
 
 returns-2 : tie.Need-returns-2
-returns-2 c = let s = c .before in ap (λ (b : Bool). depthGiven b (s .args .depth)) (sym (c .if1 .left))
+returns-2 c =
+    let s = c .before in
+    ap (λ (b : Bool). depthGiven b (s .args .depth)) (sym (c .if1 .left))
 
 pub depth-given-spec : {M : Type 1} → statement M
 depth-given-spec = tie.close (tie.spec returns returns-2)

@@ -12,7 +12,9 @@ same-length : tie.Need-same-length
 same-length c = search needs
 
 returns : tie.Need-returns
-returns c = let s = c .before .before .before .before .before .before in c .before .before .write-row .ensures ∙ over-front (s .args .told .now) (s .args .words .now)
+returns c =
+    let s = c .before .before .before .before .before .before in c .before .before .write-row .ensures
+    ∙ over-front (s .args .told .now) (s .args .words .now)
 
 pub tell-spec : {M : Type 1} → statement M
 tell-spec = tie.close (tie.spec write-row-requires same-length returns)

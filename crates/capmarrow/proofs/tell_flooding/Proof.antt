@@ -48,22 +48,37 @@ same-length : tie.Need-same-length
 same-length c = search needs
 
 returns : tie.Need-returns
-returns c = let s = c .before .before .before .before .before .before .before .before .before .before in telling-by floodingTold (s .args .a) (Flooding.Found (c .before .before .before .before .before .before .before .a .given .0 .0)) (c .before .before .before .before .before .before .before .a .given .1) (s .args .told .now) (c .before .before .tell .last .0) _ (c .before .before .tell .ensures) (λ i. 1 ∷ (c .before .before .before .before .before .before .before .a .given .0 .0) .number ∷ c .before .before .before .before .before .as-word .ensures i ∷ [])
+returns c =
+    let s = c .before .before .before .before .before .before .before .before .before .before in
+    telling-by floodingTold (s .args .a) (Flooding.Found (c .before .before .before .before .before .before .before .a .given .0 .0)) (c .before .before .before .before .before .before .before .a .given .1) (s .args .told .now) (c .before .before .tell .last .0)
+    _ (c .before .before .tell .ensures)
+    (λ i. 1
+    ∷ (c .before .before .before .before .before .before .before .a .given .0 .0) .number ∷ c .before .before .before .before .before .as-word .ensures i ∷ [])
 
 same-length-2 : tie.Need-same-length-2
 same-length-2 c = search needs
 
 returns-2 : tie.Need-returns-2
-returns-2 c = let s = c .before .before .before .before .before .before .before .before .before .before in telling-by floodingTold (s .args .a) (Flooding.NotFound (c .before .before .before .before .before .before .before .a2 .given .0 .0)) (c .before .before .before .before .before .before .before .a2 .given .1) (s .args .told .now) (c .before .before .tell2 .last .0) _ (c .before .before .tell2 .ensures) (λ i. 0 ∷ (c .before .before .before .before .before .before .before .a2 .given .0 .0) .number ∷ c .before .before .before .before .before .as-word2 .ensures i ∷ [])
+returns-2 c =
+    let s = c .before .before .before .before .before .before .before .before .before .before in
+    telling-by floodingTold (s .args .a) (Flooding.NotFound (c .before .before .before .before .before .before .before .a2 .given .0 .0)) (c .before .before .before .before .before .before .before .a2 .given .1) (s .args .told .now) (c .before .before .tell2 .last .0)
+    _ (c .before .before .tell2 .ensures)
+    (λ i. 0
+    ∷ (c .before .before .before .before .before .before .before .a2 .given .0 .0) .number ∷ c .before .before .before .before .before .as-word2 .ensures i ∷ [])
 
 same-length-3 : tie.Need-same-length-3
 same-length-3 c = search needs
 
 returns-3 : tie.Need-returns-3
-returns-3 c = let s = c .before .before .before .before .before .before .before .before .before in telling-by floodingTold (s .args .a) (Flooding.TooLong (c .before .before .before .before .before .before .a3 .given .0 .0)) (c .before .before .before .before .before .before .a3 .given .1) (s .args .told .now) (c .before .before .tell3 .last .0) _ (c .before .before .tell3 .ensures) refl
+returns-3 c =
+    let s = c .before .before .before .before .before .before .before .before .before in
+    telling-by floodingTold (s .args .a) (Flooding.TooLong (c .before .before .before .before .before .before .a3 .given .0 .0)) (c .before .before .before .before .before .before .a3 .given .1) (s .args .told .now) (c .before .before .tell3 .last .0)
+    _ (c .before .before .tell3 .ensures) refl
 
 returns-4 : tie.Need-returns-4
-returns-4 c = let s = c .before .before .before .before in telling-none floodingTold (s .args .a) (Flooding.Refused (c .before .a4 .given .0 .0)) (c .before .a4 .given .1) (s .args .told .now) refl
+returns-4 c =
+    let s = c .before .before .before .before in
+    telling-none floodingTold (s .args .a) (Flooding.Refused (c .before .a4 .given .0 .0)) (c .before .a4 .given .1) (s .args .told .now) refl
 
 pub tell-flooding-spec : {M : Type 1} → statement M
 tell-flooding-spec =

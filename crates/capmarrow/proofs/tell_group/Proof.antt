@@ -79,16 +79,33 @@ same-length : tie.Need-same-length
 same-length c = search needs
 
 returns : tie.Need-returns
-returns c = let s = c .before .before .before .before .before .before .before .before .before .before .before .before .before .before .before .before .before .before .before .before .before .before .before in telling-by (λ (x : GroupOf). groupTold x (s .args .t3)) (s .args .a) (GroupOf.Found (c .before .before .before .before .before .before .before .before .before .before .before .before .before .before .before .before .before .before .before .before .a .given .0 .0)) (c .before .before .before .before .before .before .before .before .before .before .before .before .before .before .before .before .before .before .before .before .a .given .1) (s .args .told .now) (c .before .before .tell .last .0) _ (c .before .before .tell .ensures) (λ i. 1 ∷ (c .before .before .before .before .before .before .before .before .before .before .before .before .before .before .before .before .before .before .before .before .a .given .0 .0) .grid ∷ (c .before .before .before .before .before .before .before .before .before .before .before .before .before .before .before .before .before .before .before .before .a .given .0 .0) .count ∷ (c .before .before .before .before .before .before .before .before .before .before .before .before .before .before .before .word .ensures ∙ ap axisWord (toZ-ofZ {w = w32} {z = getD (getD (s .args .t3) 0 []) 0 (pos 0)} (record { sfits = c .before .before .before .before .before .before .before .before .before .before .before .before .before .before .before .before .word-arg .given }))) i ∷ (c .before .before .before .before .before .before .before .before .before .before .before .before .before .word2 .ensures ∙ ap axisWord (toZ-ofZ {w = w32} {z = getD (getD (s .args .t3) 0 []) 1 (pos 0)} (record { sfits = c .before .before .before .before .before .before .before .before .before .before .before .before .before .before .word-arg2 .given }))) i ∷ (c .before .before .before .before .before .before .before .before .before .before .before .word3 .ensures ∙ ap axisWord (toZ-ofZ {w = w32} {z = getD (getD (s .args .t3) 0 []) 2 (pos 0)} (record { sfits = c .before .before .before .before .before .before .before .before .before .before .before .before .word-arg3 .given }))) i ∷ (c .before .before .before .before .before .before .before .before .before .word4 .ensures ∙ ap axisWord (toZ-ofZ {w = w32} {z = getD (getD (s .args .t3) 1 []) 0 (pos 0)} (record { sfits = c .before .before .before .before .before .before .before .before .before .before .word-arg4 .given }))) i ∷ (c .before .before .before .before .before .before .before .word5 .ensures ∙ ap axisWord (toZ-ofZ {w = w32} {z = getD (getD (s .args .t3) 1 []) 1 (pos 0)} (record { sfits = c .before .before .before .before .before .before .before .before .word-arg5 .given }))) i ∷ (c .before .before .before .before .before .word6 .ensures ∙ ap axisWord (toZ-ofZ {w = w32} {z = getD (getD (s .args .t3) 1 []) 2 (pos 0)} (record { sfits = c .before .before .before .before .before .before .word-arg6 .given }))) i ∷ [])
+returns c =
+    let s = c .before .before .before .before .before .before .before .before .before .before .before .before .before .before .before .before .before .before .before .before .before .before .before in
+    telling-by (λ (x : GroupOf). groupTold x (s .args .t3)) (s .args .a) (GroupOf.Found (c .before .before .before .before .before .before .before .before .before .before .before .before .before .before .before .before .before .before .before .before .a .given .0 .0)) (c .before .before .before .before .before .before .before .before .before .before .before .before .before .before .before .before .before .before .before .before .a .given .1) (s .args .told .now) (c .before .before .tell .last .0)
+    _ (c .before .before .tell .ensures)
+    (λ i. 1
+    ∷ (c .before .before .before .before .before .before .before .before .before .before .before .before .before .before .before .before .before .before .before .before .a .given .0 .0) .grid
+    ∷ (c .before .before .before .before .before .before .before .before .before .before .before .before .before .before .before .before .before .before .before .before .a .given .0 .0) .count
+    ∷ (c .before .before .before .before .before .before .before .before .before .before .before .before .before .before .before .word .ensures ∙ ap axisWord (toZ-ofZ {w = w32} {z = getD (getD (s .args .t3) 0 []) 0 (pos 0)} (record { sfits = c .before .before .before .before .before .before .before .before .before .before .before .before .before .before .before .before .word-arg .given }))) i
+    ∷ (c .before .before .before .before .before .before .before .before .before .before .before .before .before .word2 .ensures ∙ ap axisWord (toZ-ofZ {w = w32} {z = getD (getD (s .args .t3) 0 []) 1 (pos 0)} (record { sfits = c .before .before .before .before .before .before .before .before .before .before .before .before .before .before .word-arg2 .given }))) i
+    ∷ (c .before .before .before .before .before .before .before .before .before .before .before .word3 .ensures ∙ ap axisWord (toZ-ofZ {w = w32} {z = getD (getD (s .args .t3) 0 []) 2 (pos 0)} (record { sfits = c .before .before .before .before .before .before .before .before .before .before .before .before .word-arg3 .given }))) i
+    ∷ (c .before .before .before .before .before .before .before .before .before .word4 .ensures ∙ ap axisWord (toZ-ofZ {w = w32} {z = getD (getD (s .args .t3) 1 []) 0 (pos 0)} (record { sfits = c .before .before .before .before .before .before .before .before .before .before .word-arg4 .given }))) i
+    ∷ (c .before .before .before .before .before .before .before .word5 .ensures ∙ ap axisWord (toZ-ofZ {w = w32} {z = getD (getD (s .args .t3) 1 []) 1 (pos 0)} (record { sfits = c .before .before .before .before .before .before .before .before .word-arg5 .given }))) i
+    ∷ (c .before .before .before .before .before .word6 .ensures ∙ ap axisWord (toZ-ofZ {w = w32} {z = getD (getD (s .args .t3) 1 []) 2 (pos 0)} (record { sfits = c .before .before .before .before .before .before .word-arg6 .given }))) i ∷ [])
 
 same-length-2 : tie.Need-same-length-2
 same-length-2 c = search needs
 
 returns-2 : tie.Need-returns-2
-returns-2 c = let s = c .before .before .before .before .before .before .before .before in telling-by (λ (x : GroupOf). groupTold x (s .args .t3)) (s .args .a) (GroupOf.NotFound) (c .before .before .before .before .before .enum-told .given .1) (s .args .told .now) (c .before .before .tell2 .last .0) _ (c .before .before .tell2 .ensures) refl
+returns-2 c =
+    let s = c .before .before .before .before .before .before .before .before in
+    telling-by (λ (x : GroupOf). groupTold x (s .args .t3)) (s .args .a) (GroupOf.NotFound) (c .before .before .before .before .before .enum-told .given .1) (s .args .told .now) (c .before .before .tell2 .last .0)
+    _ (c .before .before .tell2 .ensures) refl
 
 returns-3 : tie.Need-returns-3
-returns-3 c = let s = c .before .before .before .before in telling-none (λ (x : GroupOf). groupTold x (s .args .t3)) (s .args .a) (GroupOf.Refused (c .before .a2 .given .0 .0)) (c .before .a2 .given .1) (s .args .told .now) refl
+returns-3 c =
+    let s = c .before .before .before .before in
+    telling-none (λ (x : GroupOf). groupTold x (s .args .t3)) (s .args .a) (GroupOf.Refused (c .before .a2 .given .0 .0)) (c .before .a2 .given .1) (s .args .told .now) refl
 
 pub tell-group-spec : {M : Type 1} → statement M
 tell-group-spec =

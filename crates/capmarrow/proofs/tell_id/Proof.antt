@@ -32,16 +32,24 @@ same-length : tie.Need-same-length
 same-length c = search needs
 
 returns : tie.Need-returns
-returns c = let s = c .before .before .before .before .before .before .before .before .before in telling-by idTold (s .args .a) (IdOf.Found (c .before .before .before .before .before .before .a .given .0 .0)) (c .before .before .before .before .before .before .a .given .1) (s .args .told .now) (c .before .before .tell .last .0) _ (c .before .before .tell .ensures) refl
+returns c =
+    let s = c .before .before .before .before .before .before .before .before .before in
+    telling-by idTold (s .args .a) (IdOf.Found (c .before .before .before .before .before .before .a .given .0 .0)) (c .before .before .before .before .before .before .a .given .1) (s .args .told .now) (c .before .before .tell .last .0)
+    _ (c .before .before .tell .ensures) refl
 
 same-length-2 : tie.Need-same-length-2
 same-length-2 c = search needs
 
 returns-2 : tie.Need-returns-2
-returns-2 c = let s = c .before .before .before .before .before .before .before .before in telling-by idTold (s .args .a) (IdOf.NotFound) (c .before .before .before .before .before .enum-told .given .1) (s .args .told .now) (c .before .before .tell2 .last .0) _ (c .before .before .tell2 .ensures) refl
+returns-2 c =
+    let s = c .before .before .before .before .before .before .before .before in
+    telling-by idTold (s .args .a) (IdOf.NotFound) (c .before .before .before .before .before .enum-told .given .1) (s .args .told .now) (c .before .before .tell2 .last .0)
+    _ (c .before .before .tell2 .ensures) refl
 
 returns-3 : tie.Need-returns-3
-returns-3 c = let s = c .before .before .before .before in telling-none idTold (s .args .a) (IdOf.Refused (c .before .a2 .given .0 .0)) (c .before .a2 .given .1) (s .args .told .now) refl
+returns-3 c =
+    let s = c .before .before .before .before in
+    telling-none idTold (s .args .a) (IdOf.Refused (c .before .a2 .given .0 .0)) (c .before .a2 .given .1) (s .args .told .now) refl
 
 pub tell-id-spec : {M : Type 1} → statement M
 tell-id-spec =

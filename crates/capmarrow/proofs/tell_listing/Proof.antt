@@ -41,22 +41,33 @@ same-length : tie.Need-same-length
 same-length c = search needs
 
 returns : tie.Need-returns
-returns c = let s = c .before .before .before .before .before .before .before .before .before in telling-by listingTold (s .args .a) (Listing.Found (c .before .before .before .before .before .before .a .given .0 .0)) (c .before .before .before .before .before .before .a .given .1) (s .args .told .now) (c .before .before .tell .last .0) _ (c .before .before .tell .ensures) refl
+returns c =
+    let s = c .before .before .before .before .before .before .before .before .before in
+    telling-by listingTold (s .args .a) (Listing.Found (c .before .before .before .before .before .before .a .given .0 .0)) (c .before .before .before .before .before .before .a .given .1) (s .args .told .now) (c .before .before .tell .last .0)
+    _ (c .before .before .tell .ensures) refl
 
 same-length-2 : tie.Need-same-length-2
 same-length-2 c = search needs
 
 returns-2 : tie.Need-returns-2
-returns-2 c = let s = c .before .before .before .before .before .before .before .before .before in telling-by listingTold (s .args .a) (Listing.NotFound (c .before .before .before .before .before .before .a2 .given .0 .0)) (c .before .before .before .before .before .before .a2 .given .1) (s .args .told .now) (c .before .before .tell2 .last .0) _ (c .before .before .tell2 .ensures) refl
+returns-2 c =
+    let s = c .before .before .before .before .before .before .before .before .before in
+    telling-by listingTold (s .args .a) (Listing.NotFound (c .before .before .before .before .before .before .a2 .given .0 .0)) (c .before .before .before .before .before .before .a2 .given .1) (s .args .told .now) (c .before .before .tell2 .last .0)
+    _ (c .before .before .tell2 .ensures) refl
 
 same-length-3 : tie.Need-same-length-3
 same-length-3 c = search needs
 
 returns-3 : tie.Need-returns-3
-returns-3 c = let s = c .before .before .before .before .before .before .before .before .before in telling-by listingTold (s .args .a) (Listing.TooLong (c .before .before .before .before .before .before .a3 .given .0 .0)) (c .before .before .before .before .before .before .a3 .given .1) (s .args .told .now) (c .before .before .tell3 .last .0) _ (c .before .before .tell3 .ensures) refl
+returns-3 c =
+    let s = c .before .before .before .before .before .before .before .before .before in
+    telling-by listingTold (s .args .a) (Listing.TooLong (c .before .before .before .before .before .before .a3 .given .0 .0)) (c .before .before .before .before .before .before .a3 .given .1) (s .args .told .now) (c .before .before .tell3 .last .0)
+    _ (c .before .before .tell3 .ensures) refl
 
 returns-4 : tie.Need-returns-4
-returns-4 c = let s = c .before .before .before .before in telling-none listingTold (s .args .a) (Listing.Refused (c .before .a4 .given .0 .0)) (c .before .a4 .given .1) (s .args .told .now) refl
+returns-4 c =
+    let s = c .before .before .before .before in
+    telling-none listingTold (s .args .a) (Listing.Refused (c .before .a4 .given .0 .0)) (c .before .a4 .given .1) (s .args .told .now) refl
 
 pub tell-listing-spec : {M : Type 1} → statement M
 tell-listing-spec =

@@ -44,16 +44,29 @@ same-length : tie.Need-same-length
 same-length c = search needs
 
 returns : tie.Need-returns
-returns c = let s = c .before .before .before .before .before .before .before .before .before .before .before .before .before .before .before .before in telling-by whereTold (s .args .a) (Where.Found (c .before .before .before .before .before .before .before .before .before .before .before .before .before .a .given .0 .0)) (c .before .before .before .before .before .before .before .before .before .before .before .before .before .a .given .1) (s .args .told .now) (c .before .before .tell .last .0) _ (c .before .before .tell .ensures) (λ i. 1 ∷ (c .before .before .before .before .before .before .before .before .before .before .before .before .before .a .given .0 .0) .grid ∷ (c .before .before .before .before .before .before .before .before .before .word .ensures ∙ ap axisWord (toZ-ofZ {w = w32} {z = c .before .before .before .before .before .before .before .before .before .before .before .before .before .a .given .0 .0 .coord .x} (record { sfits = c .before .before .before .before .before .before .before .before .before .before .struct-told .given .0 .1 }))) i ∷ (c .before .before .before .before .before .before .before .word2 .ensures ∙ ap axisWord (toZ-ofZ {w = w32} {z = c .before .before .before .before .before .before .before .before .before .before .before .before .before .a .given .0 .0 .coord .y} (record { sfits = c .before .before .before .before .before .before .before .before .struct-told2 .given .1 .0 .1 }))) i ∷ (c .before .before .before .before .before .word3 .ensures ∙ ap axisWord (toZ-ofZ {w = w32} {z = c .before .before .before .before .before .before .before .before .before .before .before .before .before .a .given .0 .0 .coord .z} (record { sfits = c .before .before .before .before .before .before .struct-told3 .given .1 .1 .0 .1 }))) i ∷ [])
+returns c =
+    let s = c .before .before .before .before .before .before .before .before .before .before .before .before .before .before .before .before in
+    telling-by whereTold (s .args .a) (Where.Found (c .before .before .before .before .before .before .before .before .before .before .before .before .before .a .given .0 .0)) (c .before .before .before .before .before .before .before .before .before .before .before .before .before .a .given .1) (s .args .told .now) (c .before .before .tell .last .0)
+    _ (c .before .before .tell .ensures)
+    (λ i. 1
+    ∷ (c .before .before .before .before .before .before .before .before .before .before .before .before .before .a .given .0 .0) .grid
+    ∷ (c .before .before .before .before .before .before .before .before .before .word .ensures ∙ ap axisWord (toZ-ofZ {w = w32} {z = c .before .before .before .before .before .before .before .before .before .before .before .before .before .a .given .0 .0 .coord .x} (record { sfits = c .before .before .before .before .before .before .before .before .before .before .struct-told .given .0 .1 }))) i
+    ∷ (c .before .before .before .before .before .before .before .word2 .ensures ∙ ap axisWord (toZ-ofZ {w = w32} {z = c .before .before .before .before .before .before .before .before .before .before .before .before .before .a .given .0 .0 .coord .y} (record { sfits = c .before .before .before .before .before .before .before .before .struct-told2 .given .1 .0 .1 }))) i
+    ∷ (c .before .before .before .before .before .word3 .ensures ∙ ap axisWord (toZ-ofZ {w = w32} {z = c .before .before .before .before .before .before .before .before .before .before .before .before .before .a .given .0 .0 .coord .z} (record { sfits = c .before .before .before .before .before .before .struct-told3 .given .1 .1 .0 .1 }))) i ∷ [])
 
 same-length-2 : tie.Need-same-length-2
 same-length-2 c = search needs
 
 returns-2 : tie.Need-returns-2
-returns-2 c = let s = c .before .before .before .before .before .before .before .before in telling-by whereTold (s .args .a) (Where.NotFound) (c .before .before .before .before .before .enum-told .given .1) (s .args .told .now) (c .before .before .tell2 .last .0) _ (c .before .before .tell2 .ensures) refl
+returns-2 c =
+    let s = c .before .before .before .before .before .before .before .before in
+    telling-by whereTold (s .args .a) (Where.NotFound) (c .before .before .before .before .before .enum-told .given .1) (s .args .told .now) (c .before .before .tell2 .last .0)
+    _ (c .before .before .tell2 .ensures) refl
 
 returns-3 : tie.Need-returns-3
-returns-3 c = let s = c .before .before .before .before in telling-none whereTold (s .args .a) (Where.Refused (c .before .a2 .given .0 .0)) (c .before .a2 .given .1) (s .args .told .now) refl
+returns-3 c =
+    let s = c .before .before .before .before in
+    telling-none whereTold (s .args .a) (Where.Refused (c .before .a2 .given .0 .0)) (c .before .a2 .given .1) (s .args .told .now) refl
 
 pub tell-where-spec : {M : Type 1} → statement M
 tell-where-spec =

@@ -30,7 +30,12 @@ array-read-result : tie.Need-array-read-result
 array-read-result c = search needs
 
 returns : tie.Need-returns
-returns c = let s = c .before .before .before .before in ap (λ (l : List ℕ). getD l 1 0) (c .before .write-cell .ensures) ∙ first-axis (c .before .before .stored .result) ∙ ap (λ (d : Cell). signedWord (d .x)) (c .before .before .stored .ensures) ∙ ap axisWord (toZ-ofZ (s .fits .n))
+returns c =
+    let s = c .before .before .before .before in
+    ap (λ (l : List ℕ). getD l 1 0) (c .before .write-cell .ensures)
+    ∙ first-axis (c .before .before .stored .result)
+    ∙ ap (λ (d : Cell). signedWord (d .x)) (c .before .before .stored .ensures)
+    ∙ ap axisWord (toZ-ofZ (s .fits .n))
 
 pub word-spec : {M : Type 1} → statement M
 word-spec =

@@ -27,30 +27,39 @@ Inv-loop net n cells m wanted i₀ i = all (held cells m wanted) (netIn n net) �
 
 abbrev μ-loop : tie.MeasureT-loop
 μ-loop net n cells m wanted i₀ i = n - i
+
 loop-holds : tie.Need-loop-holds Inv-loop μ-loop
 loop-holds c = refl
+
 mul-cell-at : tie.Need-mul-cell-at Inv-loop μ-loop
 mul-cell-at c = search needs
+
 cell-at-requires : tie.Need-cell-at-requires Inv-loop μ-loop
 cell-at-requires c κs = search needs
+
 holds-requires : tie.Need-holds-requires Inv-loop μ-loop
 holds-requires c κs = c .before .before .before .before .before .pre .0
+
 returns : tie.Need-returns Inv-loop μ-loop
 returns c =
     let l = c .before .before .before .before in
     let s = c .before .before .before .before .before .before .before in
     sym (l .loop .inv ∙ all-no (net-lines (s .args .n) (s .args .net .now)) (held (s .args .cells .now) (s .args .m) (s .args .wanted)) (l .loop .i) (c .before .before .before .loop-test .taken)
     (ap (λ b. cond (s .args .wanted) b (not b)) (ap (has same (keys (table4 30 (s .args .m) (s .args .cells .now)))) (sym (c .before .before .cell-at .ensures)) ∙ sym (c .before .holds .ensures)) ∙ not-wanted (s .args .wanted) (c .before .holds .result) (c .if1 .taken)))
+
 add-i : tie.Need-add-i Inv-loop μ-loop
 add-i c = search needs
+
 loop-less : tie.Need-loop-less Inv-loop μ-loop
 loop-less c = search needs
+
 loop-again : tie.Need-loop-again Inv-loop μ-loop
 loop-again c =
     let l = c .before .before .before .before in
     let s = c .before .before .before .before .before .before .before in
     l .loop .inv ∙ all-next (net-lines (s .args .n) (s .args .net .now)) (held (s .args .cells .now) (s .args .m) (s .args .wanted)) (l .loop .i) (c .before .before .before .loop-test .taken)
     (ap (λ b. cond (s .args .wanted) b (not b)) (ap (has same (keys (table4 30 (s .args .m) (s .args .cells .now)))) (sym (c .before .before .cell-at .ensures)) ∙ sym (c .before .holds .ensures)) ∙ as-wanted (s .args .wanted) (c .before .holds .result) (c .if1 .left))
+
 returns-2 : tie.Need-returns-2 Inv-loop μ-loop
 returns-2 c =
     let l = c .before in

@@ -23,27 +23,35 @@ Inv-loop marks n i₀ i = all (ltb 0) (take n marks) ≡ all (ltb 0) (drop i (ta
 
 abbrev μ-loop : tie.MeasureT-loop
 μ-loop marks n i₀ i = n - i
+
 loop-holds : tie.Need-loop-holds Inv-loop μ-loop
 loop-holds c = refl
+
 mul-if1 : tie.Need-mul-if1 Inv-loop μ-loop
 mul-if1 c = search needs
+
 shared-slice-read-if1 : tie.Need-shared-slice-read-if1 Inv-loop μ-loop
 shared-slice-read-if1 c = search needs
+
 returns : tie.Need-returns Inv-loop μ-loop
 returns c =
     let s = c .before .before .before .before in
     let l = c .before .before .before in
     sym (l .loop .inv ∙ all-no (lined (s .args .marks .now) (s .args .n) (s .pre)) (ltb 0) (l .loop .i) (c .before .before .loop-test .taken) (ap (ltb 0) (c .if1 .taken)))
+
 add-i : tie.Need-add-i Inv-loop μ-loop
 add-i c = search needs
+
 loop-less : tie.Need-loop-less Inv-loop μ-loop
 loop-less c = search needs
+
 loop-again : tie.Need-loop-again Inv-loop μ-loop
 loop-again c =
     let s = c .before .before .before .before in
     let l = c .before .before .before in
     let h = c .if1 .left in
     l .loop .inv ∙ all-next (lined (s .args .marks .now) (s .args .n) (s .pre)) (ltb 0) (l .loop .i) (c .before .before .loop-test .taken) (lt-ltb 0 (getD (s .args .marks .now) (l .loop .i) 0) (omega arith))
+
 returns-2 : tie.Need-returns-2 Inv-loop μ-loop
 returns-2 c =
     let s = c .before .before in

@@ -21,28 +21,38 @@ Inv-loop s w at n i₀ i = (l : List Cell) → Lines l n (λ i. cellAt s (w * i 
 
 abbrev μ-loop : tie.MeasureT-loop
 μ-loop s w at n i₀ i = n - i
+
 loop-holds : tie.Need-loop-holds Inv-loop μ-loop
 loop-holds c = λ l r. refl
+
 mul-cell-at : tie.Need-mul-cell-at Inv-loop μ-loop
 mul-cell-at c = let s = c .before .before .before in let f = row-fits (s .args .w) (s .args .n) (c .before .loop .i) (c .loop-test .taken) in search needs
+
 add-cell-at : tie.Need-add-cell-at Inv-loop μ-loop
 add-cell-at c = let s = c .before .before .before in let f = row-fits (s .args .w) (s .args .n) (c .before .loop .i) (c .loop-test .taken) in search needs
+
 cell-at-requires : tie.Need-cell-at-requires Inv-loop μ-loop
 cell-at-requires c κs = let s = c .before .before .before in let f = row-fits (s .args .w) (s .args .n) (c .before .loop .i) (c .loop-test .taken) in search needs
+
 stored-in-range-requires : tie.Need-stored-in-range-requires Inv-loop μ-loop
 stored-in-range-requires c κs = search needs
+
 returns : tie.Need-returns Inv-loop μ-loop
 returns c =
     let k = c .before .before .before .before in
     λ l r. sym (k .loop .inv l r ∙ all-no r cellInRange (k .loop .i) (c .before .before .before .loop-test .taken) (ap cellInRange (sym (c .before .before .cell-at .ensures)) ∙ sym (c .before .stored-in-range .ensures) ∙ not-true _ (c .if1 .taken)))
+
 add-i : tie.Need-add-i Inv-loop μ-loop
 add-i c = search needs
+
 loop-less : tie.Need-loop-less Inv-loop μ-loop
 loop-less c = search needs
+
 loop-again : tie.Need-loop-again Inv-loop μ-loop
 loop-again c =
     let k = c .before .before .before .before in
     λ l r. k .loop .inv l r ∙ all-next r cellInRange (k .loop .i) (c .before .before .before .loop-test .taken) (ap cellInRange (sym (c .before .before .cell-at .ensures)) ∙ sym (c .before .stored-in-range .ensures) ∙ not-false _ (c .if1 .left))
+
 returns-2 : tie.Need-returns-2 Inv-loop μ-loop
 returns-2 c = λ l r. sym (c .before .loop .inv l r ∙ all-end r cellInRange (c .before .loop .i) (c .loop-test .left))
 

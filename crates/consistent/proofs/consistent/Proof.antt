@@ -42,40 +42,58 @@ six c = sym (c .before .ids-below-next .ensures) ∙ not-false _ (c .if7 .left)
 
 seven : (c : tie.Else8) → point7 (c .before .before .before .before .before .before .before .before .before .before .before .before .before .before .before .before .before .args .state .now) ≡ true
 seven c = sym (c .before .coordinates-in-range .ensures) ∙ not-false _ (c .if8 .left)
+
 state-len-requires : tie.Need-state-len-requires
 state-len-requires c κs = search needs
+
 returns : tie.Need-returns
 returns c = let w = c .before .before .before .args .state .now in too-short w (short-words w (c .before .state-len .result) (c .before .state-len .ensures) (c .if1 .taken))
+
 entities-within-requires : tie.Need-entities-within-requires
 entities-within-requires c κs = long (c)
+
 returns-2 : tie.Need-returns-2
 returns-2 c = broken1 (c .before .before .before .before .before .args .state .now) (long (c .before .before)) (sym (c .before .entities-within .ensures) ∙ not-true _ (c .if2 .taken))
+
 cells-exact-requires : tie.Need-cells-exact-requires
 cells-exact-requires c κs = (long (c .before .before), one (c))
+
 returns-3 : tie.Need-returns-3
 returns-3 c = broken2 (c .before .before .before .before .before .before .before .args .state .now) (long (c .before .before .before .before)) (one (c .before .before)) (sym (c .before .cells-exact .ensures) ∙ not-true _ (c .if3 .taken))
+
 lists-exact-requires : tie.Need-lists-exact-requires
 lists-exact-requires c κs = (long (c .before .before .before .before), two (c))
+
 returns-4 : tie.Need-returns-4
 returns-4 c = broken3 (c .before .before .before .before .before .before .before .before .before .args .state .now) (long (c .before .before .before .before .before .before)) (one (c .before .before .before .before)) (two (c .before .before)) (sym (c .before .lists-exact .ensures) ∙ not-true _ (c .if4 .taken))
+
 ids-shared-requires : tie.Need-ids-shared-requires
 ids-shared-requires c κs = (long (c .before .before .before .before .before .before), two (c .before .before), three (c))
+
 returns-5 : tie.Need-returns-5
 returns-5 c = broken4 (c .before .before .before .before .before .before .before .before .before .before .before .args .state .now) (long (c .before .before .before .before .before .before .before .before)) (one (c .before .before .before .before .before .before)) (two (c .before .before .before .before)) (three (c .before .before)) (sym (c .before .ids-shared .ensures) ∙ not-true _ (c .if5 .taken))
+
 records-exact-requires : tie.Need-records-exact-requires
 records-exact-requires c κs = (long (c .before .before .before .before .before .before .before .before), two (c .before .before .before .before))
+
 returns-6 : tie.Need-returns-6
 returns-6 c = broken5 (c .before .before .before .before .before .before .before .before .before .before .before .before .before .args .state .now) (long (c .before .before .before .before .before .before .before .before .before .before)) (one (c .before .before .before .before .before .before .before .before)) (two (c .before .before .before .before .before .before)) (three (c .before .before .before .before)) (four (c .before .before)) (sym (c .before .records-exact .ensures) ∙ not-true _ (c .if6 .taken))
+
 ids-below-next-requires : tie.Need-ids-below-next-requires
 ids-below-next-requires c κs = (long (c .before .before .before .before .before .before .before .before .before .before), two (c .before .before .before .before .before .before))
+
 returns-7 : tie.Need-returns-7
 returns-7 c = broken6 (c .before .before .before .before .before .before .before .before .before .before .before .before .before .before .before .args .state .now) (long (c .before .before .before .before .before .before .before .before .before .before .before .before)) (one (c .before .before .before .before .before .before .before .before .before .before)) (two (c .before .before .before .before .before .before .before .before)) (three (c .before .before .before .before .before .before)) (four (c .before .before .before .before)) (five (c .before .before)) (sym (c .before .ids-below-next .ensures) ∙ not-true _ (c .if7 .taken))
+
 coordinates-in-range-requires : tie.Need-coordinates-in-range-requires
 coordinates-in-range-requires c κs = (long (c .before .before .before .before .before .before .before .before .before .before .before .before), one (c .before .before .before .before .before .before .before .before .before .before))
+
 returns-8 : tie.Need-returns-8
 returns-8 c = broken7 (c .before .before .before .before .before .before .before .before .before .before .before .before .before .before .before .before .before .args .state .now) (long (c .before .before .before .before .before .before .before .before .before .before .before .before .before .before)) (one (c .before .before .before .before .before .before .before .before .before .before .before .before)) (two (c .before .before .before .before .before .before .before .before .before .before)) (three (c .before .before .before .before .before .before .before .before)) (four (c .before .before .before .before .before .before)) (five (c .before .before .before .before)) (six (c .before .before)) (sym (c .before .coordinates-in-range .ensures) ∙ not-true _ (c .if8 .taken))
+
 nets-in-order-requires : tie.Need-nets-in-order-requires
 nets-in-order-requires c κs = (long (c .before .before .before .before .before .before .before .before .before .before .before .before .before .before), two (c .before .before .before .before .before .before .before .before .before .before))
+
 returns-9 : tie.Need-returns-9
 returns-9 c = c .nets-in-order .ensures ∙ seven-hold (c .before .before .before .before .before .before .before .before .before .before .before .before .before .before .before .before .before .before .args .state .now) (long (c .before .before .before .before .before .before .before .before .before .before .before .before .before .before .before)) (one (c .before .before .before .before .before .before .before .before .before .before .before .before .before)) (two (c .before .before .before .before .before .before .before .before .before .before .before)) (three (c .before .before .before .before .before .before .before .before .before)) (four (c .before .before .before .before .before .before .before)) (five (c .before .before .before .before .before)) (six (c .before .before .before)) (seven (c .before))
 

@@ -12,20 +12,28 @@ use Rattle.consistent.proofs.entities_within.Tie as tie
 use Rattle.consistent.proofs.entities_within.Reads as reads
 use Rattle.consistent.proofs.entities_within.Lts as lts
 use Rattle.table.proofs.is_table1.Reads as is-table1-reads
+
 sub-ents : tie.Need-sub-ents
 sub-ents c = search needs
+
 part-ents-start : tie.Need-part-ents-start
 part-ents-start c = search needs
+
 part-ents-end : tie.Need-part-ents-end
 part-ents-end c = let h = long-words (c .before .args .state .now) (c .before .pre) in omega arith
+
 shared-slice-read-n : tie.Need-shared-slice-read-n
 shared-slice-read-n c = let h = long-words (c .before .before .before .args .state .now) (c .before .before .before .pre) in omega arith
+
 shared-slice-read-result : tie.Need-shared-slice-read-result
 shared-slice-read-result c = let h = long-words (c .before .before .before .before .args .state .now) (c .before .before .before .before .pre) in omega arith
+
 shared-slice-read-result-2 : tie.Need-shared-slice-read-result-2
 shared-slice-read-result-2 c = let h = long-words (c .before .before .before .before .before .args .state .now) (c .before .before .before .before .before .pre) in omega arith
+
 is-table1-requires : tie.Need-is-table1-requires
 is-table1-requires c κs = search needs
+
 returns : tie.Need-returns
 returns c =
     let s = c .before .before .before .before .before .before in

@@ -32,16 +32,22 @@ Inv-loop ents n cells m marks₀ i₀ marks i =
 
 abbrev μ-loop : tie.MeasureT-loop
 μ-loop ents n cells m marks₀ i₀ marks i = n - i
+
 loop-holds : tie.Need-loop-holds Inv-loop μ-loop
 loop-holds c = (refl, refl, marked-none _ _ _ (c .before .before .before .pre .clear))
+
 mul-cell-at : tie.Need-mul-cell-at Inv-loop μ-loop
 mul-cell-at c = let h = c .before .before .before .before .before .pre .there in omega arith
+
 add-cell-at : tie.Need-add-cell-at Inv-loop μ-loop
 add-cell-at c = let h = c .before .before .before .before .before .pre .there in omega arith
+
 cell-at-requires : tie.Need-cell-at-requires Inv-loop μ-loop
 cell-at-requires c κs = let h = c .before .before .before .before .before .pre .there in omega arith
+
 find4-requires : tie.Need-find4-requires Inv-loop μ-loop
 find4-requires c κs = c .before .before .before .before .before .before .pre .table
+
 enum-known-p : tie.Need-enum-known-p Inv-loop μ-loop
 enum-known-p c = search needs
 
@@ -53,14 +59,19 @@ found c = let s = c .before .before .before .before .before .before .before .bef
 -- The row that was found is there.
 here : (c : tie.After-known-told Inv-loop μ-loop) → c .before .p .given .0 .0 < c .before .before .before .before .before .before .before .before .before .before .args .m
 here c = let s = c .before .before .before .before .before .before .before .before .before .before in found-below cell cell-lawful 30 (s .args .m) (s .args .cells .now) _ (c .before .p .given .0 .0) (found c)
+
 mul-marks : tie.Need-mul-marks Inv-loop μ-loop
 mul-marks c = let h = here c in let g = c .before .before .before .before .before .before .before .before .before .before .pre .space in let e = c .before .before .before .before .before .before .loop .inv .0 in omega arith
+
 slice-write-marks : tie.Need-slice-write-marks Inv-loop μ-loop
 slice-write-marks c = let h = here c in let g = c .before .before .before .before .before .before .before .before .before .before .pre .space in let e = c .before .before .before .before .before .before .loop .inv .0 in omega arith
+
 add-i : tie.Need-add-i Inv-loop μ-loop
 add-i c = search needs
+
 loop-less : tie.Need-loop-less Inv-loop μ-loop
 loop-less c = search needs
+
 loop-again : tie.Need-loop-again Inv-loop μ-loop
 loop-again c =
     let s = c .before .before .before .before .before .before .before .before .before .before in
@@ -73,10 +84,13 @@ loop-again c =
       l .loop .inv .1 ∙ all-next e (has same (keys (table4 30 (s .args .m) (s .args .cells .now)))) (l .loop .i) h (found-held 30 (s .args .m) (s .args .cells .now) _ (c .before .p .given .0 .0) (found c)),
       marked-more (s .args .cells .now) (s .args .m) (s .pre .table) (l .loop .marks) (l .loop .i) (c .before .p .given .0 .0) e h (omega arith) (found c) (l .loop .inv .2),
     )
+
 enum-told : tie.Need-enum-told Inv-loop μ-loop
 enum-told c = search needs
+
 same-length : tie.Need-same-length Inv-loop μ-loop
 same-length c = c .before .before .before .before .before .loop .inv .0
+
 returns : tie.Need-returns Inv-loop μ-loop
 returns c =
     let s = c .before .before .before .before .before .before .before .before .before in
@@ -87,8 +101,10 @@ returns c =
       λ f. absurd (true-false f refl),
       l .loop .inv .0,
     )
+
 same-length-2 : tie.Need-same-length-2 Inv-loop μ-loop
 same-length-2 c = c .before .loop .inv .0
+
 returns-2 : tie.Need-returns-2 Inv-loop μ-loop
 returns-2 c =
     let s = c .before .before .before .before .before in

@@ -21,34 +21,45 @@ Inv-loop cells ids n i₀ i = equal same (keys (table4 5 n ids)) (keys (table4 3
 
 abbrev μ-loop : tie.MeasureT-loop
 μ-loop cells ids n i₀ i = n - i
+
 loop-holds : tie.Need-loop-holds Inv-loop μ-loop
 loop-holds c = refl
+
 mul-cell-at : tie.Need-mul-cell-at Inv-loop μ-loop
 mul-cell-at c = search needs
+
 cell-at-requires : tie.Need-cell-at-requires Inv-loop μ-loop
 cell-at-requires c κs = search needs
+
 mul-cell-at-2 : tie.Need-mul-cell-at-2 Inv-loop μ-loop
 mul-cell-at-2 c = search needs
+
 cell-at-requires-2 : tie.Need-cell-at-requires-2 Inv-loop μ-loop
 cell-at-requires-2 c κs = search needs
+
 same-cell-requires : tie.Need-same-cell-requires Inv-loop μ-loop
 same-cell-requires c κs = search needs
+
 returns : tie.Need-returns Inv-loop μ-loop
 returns c =
     let s = c .before .before .before .before .before .before .before .before in
     let l = c .before .before .before .before .before in
     sym (l .loop .inv ∙ equal-no same (key-lines 5 (s .args .n) (s .args .ids .now) (omega arith)) (key-lines 30 (s .args .n) (s .args .cells .now) (omega arith)) (l .loop .i) (c .before .before .before .before .loop-test .taken)
     ((λ i. same (sym (c .before .before .before .cell-at .ensures) i) (sym (c .before .before .cell-at2 .ensures) i)) ∙ sym (c .before .same-cell .ensures) ∙ not-true _ (c .if1 .taken)))
+
 add-i : tie.Need-add-i Inv-loop μ-loop
 add-i c = search needs
+
 loop-less : tie.Need-loop-less Inv-loop μ-loop
 loop-less c = search needs
+
 loop-again : tie.Need-loop-again Inv-loop μ-loop
 loop-again c =
     let s = c .before .before .before .before .before .before .before .before in
     let l = c .before .before .before .before .before in
     l .loop .inv ∙ equal-next same (key-lines 5 (s .args .n) (s .args .ids .now) (omega arith)) (key-lines 30 (s .args .n) (s .args .cells .now) (omega arith)) (l .loop .i) (c .before .before .before .before .loop-test .taken)
     ((λ i. same (sym (c .before .before .before .cell-at .ensures) i) (sym (c .before .before .cell-at2 .ensures) i)) ∙ sym (c .before .same-cell .ensures) ∙ not-false _ (c .if1 .left))
+
 returns-2 : tie.Need-returns-2 Inv-loop μ-loop
 returns-2 c =
     let s = c .before .before .before .before in

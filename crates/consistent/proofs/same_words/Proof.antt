@@ -21,30 +21,40 @@ Inv-loop a b i₀ i = equal eqb a b ≡ equal eqb (drop i a) (drop i b)
 
 abbrev μ-loop : tie.MeasureT-loop
 μ-loop a b i₀ i = length a - i
+
 loop-holds : tie.Need-loop-holds Inv-loop μ-loop
 loop-holds c = refl
+
 mul-if1 : tie.Need-mul-if1 Inv-loop μ-loop
 mul-if1 c = search needs
+
 shared-slice-read-if1 : tie.Need-shared-slice-read-if1 Inv-loop μ-loop
 shared-slice-read-if1 c = search needs
+
 mul-if1-2 : tie.Need-mul-if1-2 Inv-loop μ-loop
 mul-if1-2 c = search needs
+
 shared-slice-read-if1-2 : tie.Need-shared-slice-read-if1-2 Inv-loop μ-loop
 shared-slice-read-if1-2 c = search needs
+
 returns : tie.Need-returns Inv-loop μ-loop
 returns c =
     let s = c .before .before .before .before .before in
     let l = c .before .before .before .before in
     sym (l .loop .inv ∙ equal-no eqb (lined (s .args .a .now) (length (s .args .a .now)) refl) (lined (s .args .b .now) (length (s .args .a .now)) (sym (s .pre))) (l .loop .i) (c .before .before .before .loop-test .taken) (ne-eqb _ _ (c .if1 .taken)))
+
 add-i : tie.Need-add-i Inv-loop μ-loop
 add-i c = search needs
+
 loop-less : tie.Need-loop-less Inv-loop μ-loop
 loop-less c = search needs
+
 loop-again : tie.Need-loop-again Inv-loop μ-loop
 loop-again c =
     let s = c .before .before .before .before .before in
     let l = c .before .before .before .before in
     l .loop .inv ∙ equal-next eqb (lined (s .args .a .now) (length (s .args .a .now)) refl) (lined (s .args .b .now) (length (s .args .a .now)) (sym (s .pre))) (l .loop .i) (c .before .before .before .loop-test .taken) (eq-eqb _ _ (c .if1 .left))
+
 returns-2 : tie.Need-returns-2 Inv-loop μ-loop
 returns-2 c =
     let s = c .before .before in

@@ -21,20 +21,28 @@ Inv-loop list k₀ k = all (λ n. leb n 26) list ≡ all (λ n. leb n 26) (drop 
 
 abbrev μ-loop : tie.MeasureT-loop
 μ-loop list k₀ k = length list - k
+
 loop-holds : tie.Need-loop-holds Inv-loop μ-loop
 loop-holds c = refl
+
 mul-if1 : tie.Need-mul-if1 Inv-loop μ-loop
 mul-if1 c = search needs
+
 shared-slice-read-if1 : tie.Need-shared-slice-read-if1 Inv-loop μ-loop
 shared-slice-read-if1 c = search needs
+
 returns : tie.Need-returns Inv-loop μ-loop
 returns c = let s = c .before .before .before .before in let l = c .before .before .before in sym (l .loop .inv ∙ all-no (lined (s .args .list .now)) (λ n. leb n 26) (l .loop .k) (c .before .before .loop-test .taken) (lt-leb _ _ (c .if1 .taken)))
+
 add-k : tie.Need-add-k Inv-loop μ-loop
 add-k c = search needs
+
 loop-less : tie.Need-loop-less Inv-loop μ-loop
 loop-less c = search needs
+
 loop-again : tie.Need-loop-again Inv-loop μ-loop
 loop-again c = let s = c .before .before .before .before in let l = c .before .before .before in l .loop .inv ∙ all-next (lined (s .args .list .now)) (λ n. leb n 26) (l .loop .k) (c .before .before .loop-test .taken) (le-leb _ _ (c .if1 .left))
+
 returns-2 : tie.Need-returns-2 Inv-loop μ-loop
 returns-2 c = let s = c .before .before in let l = c .before in sym (l .loop .inv ∙ all-end (lined (s .args .list .now)) (λ n. leb n 26) (l .loop .k) (c .loop-test .left))
 

@@ -18,27 +18,35 @@ Inv-loop list k₀ k = (k ≤ length list) × ((j : ℕ) → j < k → ltb 0 (ge
 
 abbrev μ-loop : tie.MeasureT-loop
 μ-loop list k₀ k = length list - k
+
 loop-holds : tie.Need-loop-holds Inv-loop μ-loop
 loop-holds c = (omega arith, λ j h. absurd (omega arith))
+
 mul-if1 : tie.Need-mul-if1 Inv-loop μ-loop
 mul-if1 c = search needs
+
 shared-slice-read-if1 : tie.Need-shared-slice-read-if1 Inv-loop μ-loop
 shared-slice-read-if1 c = search needs
+
 returns : tie.Need-returns Inv-loop μ-loop
 returns c =
     let s = c .before .before .before .before in
     let l = c .before .before .before in
     whilst-stop (ltb 0) (s .args .list .now) (l .loop .k) 0 (c .before .before .loop-test .taken) (l .loop .inv .1) (ap (ltb 0) (c .if1 .taken))
+
 add-k : tie.Need-add-k Inv-loop μ-loop
 add-k c = search needs
+
 loop-less : tie.Need-loop-less Inv-loop μ-loop
 loop-less c = search needs
+
 loop-again : tie.Need-loop-again Inv-loop μ-loop
 loop-again c =
     let s = c .before .before .before .before in
     let l = c .before .before .before in
     let h = c .if1 .left in
     (omega arith, below-more _ _ (l .loop .inv .1) (lt-ltb 0 (getD (s .args .list .now) (l .loop .k) 0) (omega arith)))
+
 returns-2 : tie.Need-returns-2 Inv-loop μ-loop
 returns-2 c =
     let s = c .before .before in

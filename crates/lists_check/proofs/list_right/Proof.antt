@@ -16,20 +16,28 @@ use Rattle.lists_check.proofs.list_tidy.Reads as list-tidy-reads
 use Rattle.lists_check.proofs.none_touches.Reads as none-touches-reads
 use Rattle.lists_check.proofs.numbers_right.Reads as numbers-right-reads
 use Rattle.table.proofs.zero_from.Reads as zero-from-reads
+
 list-tidy-requires : tie.Need-list-tidy-requires
 list-tidy-requires c κs = search needs
+
 returns : tie.Need-returns
 returns c = let s = c .before .before .before .before in sym (right-untidy (keys (table4 30 (s .args .m) (s .args .cells .now))) (s .args .c) (s .args .list .now) (sym (c .before .list-tidy .ensures) ∙ not-true _ (c .if1 .taken)))
+
 has-room-requires : tie.Need-has-room-requires
 has-room-requires c κs = search needs
+
 numbers-right-requires : tie.Need-numbers-right-requires
 numbers-right-requires c κs = c .before .before .before .before .before .before .pre
+
 returns-2 : tie.Need-returns-2
 returns-2 c = let s = c .before .before .before .before .before .before .before in c .numbers-right .ensures ∙ right-numbers (keys (table4 30 (s .args .m) (s .args .cells .now))) (s .args .c) (s .args .list .now) (sym (c .before .before .before .before .list-tidy .ensures) ∙ not-false _ (c .before .before .before .if1 .left)) (sym (c .before .before .has-room .ensures) ∙ c .before .if2 .taken)
+
 zero-from-requires : tie.Need-zero-from-requires
 zero-from-requires c κs = search needs
+
 none-touches-requires : tie.Need-none-touches-requires
 none-touches-requires c κs = let s = c .before .before .before .before .before .before .before in table-facts cell 30 (s .args .m) (s .args .cells .now) (s .pre) .fits
+
 returns-3 : tie.Need-returns-3
 returns-3 c = let s = c .before .before .before .before .before .before .before .before in (λ i. c .before .zero-from .ensures i && c .none-touches .ensures i) ∙ right-nothing (keys (table4 30 (s .args .m) (s .args .cells .now))) (s .args .c) (s .args .list .now) (sym (c .before .before .before .before .before .list-tidy .ensures) ∙ not-false _ (c .before .before .before .before .if1 .left)) (sym (c .before .before .before .has-room .ensures) ∙ c .before .before .if2 .left)
 

@@ -11,12 +11,16 @@ use Rattle.lists_check.proofs.list_tidy.Lts as lts
 use Rattle.lists_check.proofs.are_numbers.Reads as are-numbers-reads
 use Rattle.lists_check.proofs.list_end.Reads as list-end-reads
 use Rattle.table.proofs.zero_from.Reads as zero-from-reads
+
 are-numbers-requires : tie.Need-are-numbers-requires
 are-numbers-requires c κs = search needs
+
 list-end-requires : tie.Need-list-end-requires
 list-end-requires c κs = search needs
+
 zero-from-requires : tie.Need-zero-from-requires
 zero-from-requires c κs = search needs
+
 returns : tie.Need-returns
 returns c =
     let s = c .before .before .before .before in

@@ -19,14 +19,19 @@ Inv-loop cells m marks₀ queue₀ i₀ marks queue i =
 
 abbrev μ-loop : tie.MeasureT-loop
 μ-loop cells m marks₀ queue₀ i₀ marks queue i = m - i
+
 loop-holds : tie.Need-loop-holds Inv-loop μ-loop
 loop-holds c = let s = c .before .before .before in (omega arith, refl, refl, λ t k. labels-start (s .args .cells .now) (s .args .m) t k (s .args .marks .now) (s .pre .clear))
+
 mul-if1 : tie.Need-mul-if1 Inv-loop μ-loop
 mul-if1 c = let e = c .before .loop .inv .1 in let f = c .before .before .before .before .before .pre .marksFit in omega arith
+
 slice-read-if1 : tie.Need-slice-read-if1 Inv-loop μ-loop
 slice-read-if1 c = let e = c .before .before .loop .inv .1 in let f = c .before .before .before .before .before .before .pre .marksFit in omega arith
+
 add-flood-rows : tie.Need-add-flood-rows Inv-loop μ-loop
 add-flood-rows c = let e = c .before .before .before .loop .inv .1 in let f = c .before .before .before .before .before .before .before .pre .marksFit in search needs
+
 flood-rows-requires : tie.Need-flood-rows-requires Inv-loop μ-loop
 flood-rows-requires c κs =
     let s = c .before .before .before .before .before .before .before .before .before in
@@ -36,10 +41,13 @@ flood-rows-requires c κs =
     let a = s .pre .marksFit in
     let b = s .pre .queueFits in
     labels-asks (s .args .cells .now) (s .args .m) (s .pre .stands .table) (s .pre .stands .cells) (l .loop .i) (l .loop .marks) (l .loop .inv .3 (s .pre .stands .table) (s .pre .stands .cells)) (l .loop .queue) (c .before .before .before .before .loop-test .taken) (c .before .before .if1 .taken) (omega arith) (omega arith)
+
 add-i : tie.Need-add-i Inv-loop μ-loop
 add-i c = search needs
+
 loop-less : tie.Need-loop-less Inv-loop μ-loop
 loop-less c = search needs
+
 loop-again : tie.Need-loop-again Inv-loop μ-loop
 loop-again c =
     let s = c .before .before .before .before .before .before .before .before .before .before .before .before .before .before in
@@ -51,20 +59,26 @@ loop-again c =
       f .queueKept ∙ l .loop .inv .2,
       λ t k. labels-flood (s .args .cells .now) (s .args .m) t k (l .loop .i) (l .loop .marks) (l .loop .inv .3 t k) h (c .before .before .before .before .before .before .before .if1 .taken) _ (c .before .before .before .before .flood-rows .ensures t k .reached),
     )
+
 add-i-2 : tie.Need-add-i-2 Inv-loop μ-loop
 add-i-2 c = search needs
+
 loop-less-2 : tie.Need-loop-less-2 Inv-loop μ-loop
 loop-less-2 c = search needs
+
 loop-again-2 : tie.Need-loop-again-2 Inv-loop μ-loop
 loop-again-2 c =
     let s = c .before .before .before .before .before .before .before in
     let l = c .before .before .before in
     let h = c .before .before .loop-test .taken in
     (omega arith, l .loop .inv .1, l .loop .inv .2, λ t k. labels-skip (s .args .cells .now) (s .args .m) t k (l .loop .i) (l .loop .marks) (l .loop .inv .3 t k) h (c .if1 .left))
+
 same-length : tie.Need-same-length Inv-loop μ-loop
 same-length c = c .before .loop .inv .1
+
 same-length-2 : tie.Need-same-length-2 Inv-loop μ-loop
 same-length-2 c = c .before .loop .inv .2
+
 returns : tie.Need-returns Inv-loop μ-loop
 returns c =
     let s = c .before .before .before .before .before in

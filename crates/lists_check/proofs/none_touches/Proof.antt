@@ -21,26 +21,35 @@ Inv-loop cells m c i₀ i = all (λ d. not (touches c d)) (keys (table4 30 m cel
 
 abbrev μ-loop : tie.MeasureT-loop
 μ-loop cells m c i₀ i = m - i
+
 loop-holds : tie.Need-loop-holds Inv-loop μ-loop
 loop-holds c = refl
+
 mul-cell-at : tie.Need-mul-cell-at Inv-loop μ-loop
 mul-cell-at c = search needs
+
 cell-at-requires : tie.Need-cell-at-requires Inv-loop μ-loop
 cell-at-requires c κs = search needs
+
 touching-requires : tie.Need-touching-requires Inv-loop μ-loop
 touching-requires c κs = search needs
+
 returns : tie.Need-returns Inv-loop μ-loop
 returns c =
     let s = c .before .before .before .before .before .before in let l = c .before .before .before .before in
     sym (l .loop .inv ∙ all-no (key-lines 30 (s .args .m) (s .args .cells .now) (omega arith)) (λ d. not (touches (s .args .c) d)) (l .loop .i) (c .before .before .before .loop-test .taken) (ap not (ap (touches (s .args .c)) (sym (c .before .before .cell-at .ensures)) ∙ sym (c .before .touching .ensures) ∙ c .if1 .taken)))
+
 add-i : tie.Need-add-i Inv-loop μ-loop
 add-i c = search needs
+
 loop-less : tie.Need-loop-less Inv-loop μ-loop
 loop-less c = search needs
+
 loop-again : tie.Need-loop-again Inv-loop μ-loop
 loop-again c =
     let s = c .before .before .before .before .before .before in let l = c .before .before .before .before in
     l .loop .inv ∙ all-next (key-lines 30 (s .args .m) (s .args .cells .now) (omega arith)) (λ d. not (touches (s .args .c) d)) (l .loop .i) (c .before .before .before .loop-test .taken) (ap not (ap (touches (s .args .c)) (sym (c .before .before .cell-at .ensures)) ∙ sym (c .before .touching .ensures) ∙ c .if1 .left))
+
 returns-2 : tie.Need-returns-2 Inv-loop μ-loop
 returns-2 c =
     let s = c .before .before .before in let l = c .before in

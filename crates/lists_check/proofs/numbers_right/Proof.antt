@@ -22,30 +22,41 @@ Inv-loop list cells m c i₀ i = all (rightTimes (keys (table4 30 m cells)) c li
 
 abbrev μ-loop : tie.MeasureT-loop
 μ-loop list cells m c i₀ i = 26 - i
+
 loop-holds : tie.Need-loop-holds Inv-loop μ-loop
 loop-holds c = refl
+
 add-v : tie.Need-add-v Inv-loop μ-loop
 add-v c = search needs
+
 neighbour-of-requires : tie.Need-neighbour-of-requires Inv-loop μ-loop
 neighbour-of-requires c κs = search needs
+
 holds-requires : tie.Need-holds-requires Inv-loop μ-loop
 holds-requires c κs = search needs
+
 times-requires : tie.Need-times-requires Inv-loop μ-loop
 times-requires c κs = search needs
+
 once-requires : tie.Need-once-requires Inv-loop μ-loop
 once-requires c κs = search needs
+
 returns : tie.Need-returns Inv-loop μ-loop
 returns c =
     let s = c .before .before .before .before .before .before .before .before .before in let l = c .before .before .before .before .before .before in
     sym (l .loop .inv ∙ all-no (number-lines 26) (rightTimes (keys (table4 30 (s .args .m) (s .args .cells .now))) (s .args .c) (s .args .list .now)) (l .loop .i) (c .before .before .before .before .before .loop-test .taken) (sym (times-test (keys (table4 30 (s .args .m) (s .args .cells .now))) (s .args .c) (s .args .list .now) (l .loop .i + 1) (c .before .before .before .before .neighbour-of .ensures) (c .before .before .before .holds .ensures) (c .before .before .times .ensures) (c .before .once .ensures)) ∙ ne-eqb _ _ (c .if1 .taken)))
+
 add-i : tie.Need-add-i Inv-loop μ-loop
 add-i c = search needs
+
 loop-less : tie.Need-loop-less Inv-loop μ-loop
 loop-less c = search needs
+
 loop-again : tie.Need-loop-again Inv-loop μ-loop
 loop-again c =
     let s = c .before .before .before .before .before .before .before .before .before in let l = c .before .before .before .before .before .before in
     l .loop .inv ∙ all-next (number-lines 26) (rightTimes (keys (table4 30 (s .args .m) (s .args .cells .now))) (s .args .c) (s .args .list .now)) (l .loop .i) (c .before .before .before .before .before .loop-test .taken) (sym (times-test (keys (table4 30 (s .args .m) (s .args .cells .now))) (s .args .c) (s .args .list .now) (l .loop .i + 1) (c .before .before .before .before .neighbour-of .ensures) (c .before .before .before .holds .ensures) (c .before .before .times .ensures) (c .before .once .ensures)) ∙ eq-eqb _ _ (c .if1 .left))
+
 returns-2 : tie.Need-returns-2 Inv-loop μ-loop
 returns-2 c =
     let s = c .before .before .before .before in let l = c .before in

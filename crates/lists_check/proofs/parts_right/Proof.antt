@@ -8,16 +8,22 @@ use Rattle.lists_check.proofs.parts_right.Reads as reads
 use Rattle.lists_check.proofs.parts_right.Lts as lts
 use Rattle.lists_check.proofs.firsts_agree.Reads as firsts-agree-reads
 use Rattle.lists_check.proofs.mark_parts.Reads as mark-parts-reads
+
 slice-aggregate-mark-parts : tie.Need-slice-aggregate-mark-parts
 slice-aggregate-mark-parts c = search needs
+
 slice-aggregate-mark-parts-2 : tie.Need-slice-aggregate-mark-parts-2
 slice-aggregate-mark-parts-2 c = search needs
+
 mark-parts-requires : tie.Need-mark-parts-requires
 mark-parts-requires c κs = let s = c .before .before .before .before in unmarked (s .args .cells .now) (s .args .m) 1024 (s .pre .0) (s .pre .2)
+
 slice-aggregate-firsts-agree : tie.Need-slice-aggregate-firsts-agree
 slice-aggregate-firsts-agree c = search needs
+
 firsts-agree-requires : tie.Need-firsts-agree-requires
 firsts-agree-requires c κs = search needs
+
 returns : tie.Need-returns
 returns c =
     let s = c .before .before .before .before .before .before .before .before .before in

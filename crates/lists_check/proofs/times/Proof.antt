@@ -17,18 +17,25 @@ Inv-loop list v t₀ k₀ t k = (k ≤ length list) × (t ≤ k) × (t + length 
 
 abbrev μ-loop : tie.MeasureT-loop
 μ-loop list v t₀ k₀ t k = length list - k
+
 loop-holds : tie.Need-loop-holds Inv-loop μ-loop
 loop-holds c = (omega arith, omega arith, omega arith)
+
 mul-if1 : tie.Need-mul-if1 Inv-loop μ-loop
 mul-if1 c = search needs
+
 shared-slice-read-if1 : tie.Need-shared-slice-read-if1 Inv-loop μ-loop
 shared-slice-read-if1 c = search needs
+
 add-t : tie.Need-add-t Inv-loop μ-loop
 add-t c = search needs
+
 add-k : tie.Need-add-k Inv-loop μ-loop
 add-k c = search needs
+
 loop-less : tie.Need-loop-less Inv-loop μ-loop
 loop-less c = search needs
+
 loop-again : tie.Need-loop-again Inv-loop μ-loop
 loop-again c =
     let s = c .before .before .before .before in
@@ -36,10 +43,13 @@ loop-again c =
     let i = l .loop .inv in
     let y = times-yes (s .args .v) (s .args .list .now) (l .loop .k) (c .before .before .loop-test .taken) (c .if1 .taken) in
     (omega arith, omega arith, omega arith)
+
 add-k-2 : tie.Need-add-k-2 Inv-loop μ-loop
 add-k-2 c = search needs
+
 loop-less-2 : tie.Need-loop-less-2 Inv-loop μ-loop
 loop-less-2 c = search needs
+
 loop-again-2 : tie.Need-loop-again-2 Inv-loop μ-loop
 loop-again-2 c =
     let s = c .before .before .before .before in
@@ -47,6 +57,7 @@ loop-again-2 c =
     let i = l .loop .inv in
     let y = times-no (s .args .v) (s .args .list .now) (l .loop .k) (c .before .before .loop-test .taken) (c .if1 .left) in
     (omega arith, omega arith, omega arith)
+
 returns : tie.Need-returns Inv-loop μ-loop
 returns c =
     let s = c .before .before in

@@ -1,6 +1,6 @@
 -- Each way out is one of `Playing`: the entity stands in a cell, or nowhere.
 use Rattle.map.proofs.Playing.{stands-at, stands-nowhere, removal-known, removal-unknown, can-leave}
-use Rattle.map.proofs.Passing.{ents-shows}
+use Rattle.map.proofs.Moving.{ents-shows}
 use Rattle.map.specs.Held.{Held}
 use Rattle.model.specs.Occupancy.{Occupancy}
 use mathlib.Core.Path.{subst}

@@ -16,28 +16,37 @@ Inv-loop found k first j₀ j = (j ≤ k) × (all (eqb (getD found 0 0)) (drop j
 
 abbrev μ-loop : tie.MeasureT-loop
 μ-loop found k first j₀ j = k - j
+
 shared-slice-read-first : tie.Need-shared-slice-read-first Inv-loop μ-loop
 shared-slice-read-first c = search needs
+
 loop-holds : tie.Need-loop-holds Inv-loop μ-loop
 loop-holds c = (omega arith, refl)
+
 mul-if1 : tie.Need-mul-if1 Inv-loop μ-loop
 mul-if1 c = search needs
+
 shared-slice-read-if1 : tie.Need-shared-slice-read-if1 Inv-loop μ-loop
 shared-slice-read-if1 c = search needs
+
 add-j : tie.Need-add-j Inv-loop μ-loop
 add-j c = search needs
+
 loop-less : tie.Need-loop-less Inv-loop μ-loop
 loop-less c = search needs
+
 loop-again : tie.Need-loop-again Inv-loop μ-loop
 loop-again c =
     let s = c .before .before .before .before .before in
     let a = s .args in
     (omega arith, all-on (a .found .now) (a .k) (c .before .before .before .loop .j) (getD (a .found .now) 0 0) (omega arith) (s .pre .1) _ (c .before .before .before .loop .inv .1) (c .if1 .taken))
+
 returns : tie.Need-returns Inv-loop μ-loop
 returns c =
     let s = c .before .before .before .before .before in
     let a = s .args in
     all-not (a .found .now) (a .k) (c .before .before .before .loop .j) (getD (a .found .now) 0 0) (omega arith) (s .pre .1) _ (c .before .before .before .loop .inv .1) (c .if1 .left)
+
 returns-2 : tie.Need-returns-2 Inv-loop μ-loop
 returns-2 c =
     let s = c .before .before .before in

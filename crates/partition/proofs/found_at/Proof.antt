@@ -38,32 +38,46 @@ within c = let s = c .before .before .before .before .before .before .before .be
 -- ENDDEFS
 loop-holds : tie.Need-loop-holds Inv-loop μ-loop
 loop-holds c = let s = c .before .before in (omega arith, omega arith, refl, s .pre .3, λ t h. found-none t (s .args .c) (s .args .found .now))
+
 add-neighbour-of : tie.Need-add-neighbour-of Inv-loop μ-loop
 add-neighbour-of c = search needs
+
 neighbour-of-requires : tie.Need-neighbour-of-requires Inv-loop μ-loop
 neighbour-of-requires c κs = search needs
+
 find4-requires : tie.Need-find4-requires Inv-loop μ-loop
 find4-requires c κs = let s = c .before .before .before .before .before in ids-table (s .args .ids .now) (s .args .n) (s .pre .0) (s .pre .1)
+
 enum-known-p : tie.Need-enum-known-p Inv-loop μ-loop
 enum-known-p c = search needs
+
 mul-found : tie.Need-mul-found Inv-loop μ-loop
 mul-found c = let w = within c in search needs
+
 add-found : tie.Need-add-found Inv-loop μ-loop
 add-found c = let w = within c in search needs
+
 mul-found-2 : tie.Need-mul-found-2 Inv-loop μ-loop
 mul-found-2 c = let w = within c in search needs
+
 shared-slice-read-found : tie.Need-shared-slice-read-found Inv-loop μ-loop
 shared-slice-read-found c = let w = within (c .before) in search needs
+
 mul-found-3 : tie.Need-mul-found-3 Inv-loop μ-loop
 mul-found-3 c = search needs
+
 slice-write-found : tie.Need-slice-write-found Inv-loop μ-loop
 slice-write-found c = search needs
+
 add-m : tie.Need-add-m Inv-loop μ-loop
 add-m c = search needs
+
 add-k : tie.Need-add-k Inv-loop μ-loop
 add-k c = search needs
+
 loop-less : tie.Need-loop-less Inv-loop μ-loop
 loop-less c = search needs
+
 loop-again : tie.Need-loop-again Inv-loop μ-loop
 loop-again c =
     let s = c .before .before .before .before .before .before .before .before .before .before in
@@ -74,12 +88,16 @@ loop-again c =
       v .3,
       λ t h. found-more t (s .args .c) (c .before .before .before .before .before .before .before .loop .k) (c .before .before .before .before .before .before .before .loop .m) (c .before .before .before .before .before .before .before .loop .found) (v .4 t h) (getD (s .args .ids .now) (5 * at (c .before) + 4) 0) (c .before .before .before .before .before .neighbour-of .result) (omega arith) (c .before .before .before .before .before .neighbour-of .ensures) (is-found (c .before) t h .1),
     )
+
 enum-told : tie.Need-enum-told Inv-loop μ-loop
 enum-told c = search needs
+
 add-k-2 : tie.Need-add-k-2 Inv-loop μ-loop
 add-k-2 c = search needs
+
 loop-less-2 : tie.Need-loop-less-2 Inv-loop μ-loop
 loop-less-2 c = search needs
+
 loop-again-2 : tie.Need-loop-again-2 Inv-loop μ-loop
 loop-again-2 c =
     let s = c .before .before .before .before .before .before .before .before in
@@ -91,8 +109,10 @@ loop-again-2 c =
       λ t h. found-same t (s .args .c) (c .before .before .before .before .before .loop .k) (c .before .before .before .before .before .loop .m) (c .before .before .before .before .before .loop .found) (v .4 t h) (c .before .before .before .neighbour-of .result) (c .before .before .before .neighbour-of .ensures)
           (row-missing (s .args .ids .now) (s .args .n) t h (c .before .before .before .neighbour-of .result) (c .enum-told .given .0 .0) (sym (c .enum-told .given .1) ∙ c .before .before .find4 .ensures)),
     )
+
 same-length : tie.Need-same-length Inv-loop μ-loop
 same-length c = search needs
+
 returns : tie.Need-returns Inv-loop μ-loop
 returns c =
     let s = c .before .before .before .before in

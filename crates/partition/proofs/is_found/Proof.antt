@@ -16,20 +16,28 @@ Inv-loop found k g j₀ j = (j ≤ k) × (has eqb (drop j (take k found)) g ≡ 
 
 abbrev μ-loop : tie.MeasureT-loop
 μ-loop found k g j₀ j = k - j
+
 loop-holds : tie.Need-loop-holds Inv-loop μ-loop
 loop-holds c = (omega arith, refl)
+
 mul-if1 : tie.Need-mul-if1 Inv-loop μ-loop
 mul-if1 c = search needs
+
 shared-slice-read-if1 : tie.Need-shared-slice-read-if1 Inv-loop μ-loop
 shared-slice-read-if1 c = search needs
+
 returns : tie.Need-returns Inv-loop μ-loop
 returns c = let a = c .before .before .before .before .args in has-here (a .found .now) (a .k) (c .before .before .before .loop .j) (a .g) (omega arith) (c .before .before .before .before .pre) _ (c .before .before .before .loop .inv .1) (c .if1 .taken)
+
 add-j : tie.Need-add-j Inv-loop μ-loop
 add-j c = search needs
+
 loop-less : tie.Need-loop-less Inv-loop μ-loop
 loop-less c = search needs
+
 loop-again : tie.Need-loop-again Inv-loop μ-loop
 loop-again c = let a = c .before .before .before .before .args in (omega arith, has-on (a .found .now) (a .k) (c .before .before .before .loop .j) (a .g) (omega arith) (c .before .before .before .before .pre) _ (c .before .before .before .loop .inv .1) (c .if1 .left))
+
 returns-2 : tie.Need-returns-2 Inv-loop μ-loop
 returns-2 c = let a = c .before .before .args in has-end (a .found .now) (a .k) (c .before .loop .j) (a .g) _ (omega arith) (c .before .before .pre) (c .before .loop .inv .1)
 

@@ -17,26 +17,37 @@ Inv-loop ids n found k best₀ j₀ best j = (1 ≤ j) × (j ≤ k) × ((t : Ids
 
 abbrev μ-loop : tie.MeasureT-loop
 μ-loop ids n found k best₀ j₀ best j = k - j
+
 shared-slice-read-best : tie.Need-shared-slice-read-best Inv-loop μ-loop
 shared-slice-read-best c = search needs
+
 loop-holds : tie.Need-loop-holds Inv-loop μ-loop
 loop-holds c = let s = c .before .before .before in (omega arith, s .pre .1, λ t h. refl)
+
 group-size-requires : tie.Need-group-size-requires Inv-loop μ-loop
 group-size-requires c κs = c .before .before .before .before .before .pre .0
+
 mul-group-size : tie.Need-mul-group-size Inv-loop μ-loop
 mul-group-size c = search needs
+
 shared-slice-read-group-size : tie.Need-shared-slice-read-group-size Inv-loop μ-loop
 shared-slice-read-group-size c = search needs
+
 group-size-requires-2 : tie.Need-group-size-requires-2 Inv-loop μ-loop
 group-size-requires-2 c κs = c .before .before .before .before .before .before .before .pre .0
+
 mul-best : tie.Need-mul-best Inv-loop μ-loop
 mul-best c = search needs
+
 shared-slice-read-best-2 : tie.Need-shared-slice-read-best-2 Inv-loop μ-loop
 shared-slice-read-best-2 c = search needs
+
 add-j : tie.Need-add-j Inv-loop μ-loop
 add-j c = search needs
+
 loop-less : tie.Need-loop-less Inv-loop μ-loop
 loop-less c = search needs
+
 loop-again : tie.Need-loop-again Inv-loop μ-loop
 loop-again c =
     let s = c .before .before .before .before .before .before .before .before .before .before in (
@@ -47,10 +58,13 @@ loop-again c =
           let b = c .before .before .group-size2 .ensures t h in
           largest-new t (s .args .found .now) (s .args .k) (c .before .before .before .before .before .before .loop .j) (c .before .before .before .before .before .before .loop .best) (omega arith) (s .pre .2) _ (c .before .before .before .before .before .before .loop .inv .2 t h) (omega (arith, c .before .if1 .taken)),
     )
+
 add-j-2 : tie.Need-add-j-2 Inv-loop μ-loop
 add-j-2 c = search needs
+
 loop-less-2 : tie.Need-loop-less-2 Inv-loop μ-loop
 loop-less-2 c = search needs
+
 loop-again-2 : tie.Need-loop-again-2 Inv-loop μ-loop
 loop-again-2 c =
     let s = c .before .before .before .before .before .before .before .before .before in (
@@ -61,6 +75,7 @@ loop-again-2 c =
           let b = c .before .group-size2 .ensures t h in
           largest-old t (s .args .found .now) (s .args .k) (c .before .before .before .before .before .loop .j) (c .before .before .before .before .before .loop .best) (omega arith) (s .pre .2) _ (c .before .before .before .before .before .loop .inv .2 t h) (omega (arith, c .if1 .left)),
     )
+
 returns : tie.Need-returns Inv-loop μ-loop
 returns c = let s = c .before .before .before .before .before in λ t h. largest-end t (s .args .found .now) (s .args .k) (c .before .loop .j) (c .before .loop .best) _ (omega arith) (s .pre .2) (c .before .loop .inv .2 t h)
 

@@ -17,48 +17,66 @@ Inv-loop ids₀ n found k into i₀ ids i = (i ≤ n) × (length ids ≡ length 
 
 abbrev μ-loop : tie.MeasureT-loop
 μ-loop ids₀ n found k into i₀ ids i = n - i
+
 loop-holds : tie.Need-loop-holds Inv-loop μ-loop
 loop-holds c = (omega arith, refl, λ t h. h)
+
 mul-is-found : tie.Need-mul-is-found Inv-loop μ-loop
 mul-is-found c = search needs
+
 add-is-found : tie.Need-add-is-found Inv-loop μ-loop
 add-is-found c = search needs
+
 mul-is-found-2 : tie.Need-mul-is-found-2 Inv-loop μ-loop
 mul-is-found-2 c = search needs
+
 slice-read-is-found : tie.Need-slice-read-is-found Inv-loop μ-loop
 slice-read-is-found c = search needs
+
 is-found-requires : tie.Need-is-found-requires Inv-loop μ-loop
 is-found-requires c κs = c .before .before .before .before .before .pre .1
+
 mul-ids : tie.Need-mul-ids Inv-loop μ-loop
 mul-ids c = search needs
+
 add-ids : tie.Need-add-ids Inv-loop μ-loop
 add-ids c = search needs
+
 mul-ids-2 : tie.Need-mul-ids-2 Inv-loop μ-loop
 mul-ids-2 c = search needs
+
 slice-write-ids : tie.Need-slice-write-ids Inv-loop μ-loop
 slice-write-ids c = search needs
+
 add-i : tie.Need-add-i Inv-loop μ-loop
 add-i c = search needs
+
 loop-less : tie.Need-loop-less Inv-loop μ-loop
 loop-less c = search needs
+
 loop-again : tie.Need-loop-again Inv-loop μ-loop
 loop-again c =
     let s = c .before .before .before .before .before .before .before in
     let a = s .args in
     let v = c .before .before .before .before .loop .inv in
     (omega arith, simp length-set (v .1), λ t h. merge-set (a .into) (take (a .k) (a .found .now)) (a .ids .now) (c .before .before .before .before .loop .ids) (a .n) t h (c .before .before .before .before .loop .i) (omega arith) (v .2 t h) (c .before .is-found .result) (c .before .is-found .ensures) (c .if1 .taken))
+
 add-i-2 : tie.Need-add-i-2 Inv-loop μ-loop
 add-i-2 c = search needs
+
 loop-less-2 : tie.Need-loop-less-2 Inv-loop μ-loop
 loop-less-2 c = search needs
+
 loop-again-2 : tie.Need-loop-again-2 Inv-loop μ-loop
 loop-again-2 c =
     let s = c .before .before .before .before .before .before .before in
     let a = s .args in
     let v = c .before .before .before .before .loop .inv in
     (omega arith, v .1, λ t h. merge-same (a .into) (take (a .k) (a .found .now)) (a .ids .now) (c .before .before .before .before .loop .ids) (a .n) t h (c .before .before .before .before .loop .i) (omega arith) (v .2 t h) (c .before .is-found .result) (c .before .is-found .ensures) (c .if1 .left))
+
 same-length : tie.Need-same-length Inv-loop μ-loop
 same-length c = search needs
+
 returns : tie.Need-returns Inv-loop μ-loop
 returns c =
     let s = c .before .before .before .before in

@@ -8,12 +8,16 @@ use Rattle.partition.proofs.push.Tie as tie
 use Rattle.partition.proofs.push.Reads as reads
 use Rattle.partition.proofs.push.Lts as lts
 use Rattle.table.proofs.put4.Reads as put4-reads
+
 slice-aggregate-put4 : tie.Need-slice-aggregate-put4
 slice-aggregate-put4 c = search needs
+
 put4-requires : tie.Need-put4-requires
 put4-requires c κs = let s = c .before .before .before in push-asks (s .args .ids .now) (s .args .n) (s .pre .0) (s .pre .1) (s .args .c) (s .args .g) (s .pre .3)
+
 same-length : tie.Need-same-length
 same-length c = search needs
+
 returns : tie.Need-returns
 returns c =
     let s = c .before .before .before .before .before .before in

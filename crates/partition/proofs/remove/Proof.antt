@@ -11,10 +11,13 @@ use Rattle.partition.proofs.remove.Tie as tie
 use Rattle.partition.proofs.remove.Reads as reads
 use Rattle.partition.proofs.remove.Lts as lts
 use Rattle.table.proofs.remove4.Reads as remove4-reads
+
 remove4-requires : tie.Need-remove4-requires
 remove4-requires c κs = let s = c .before .before in ids-table (s .args .ids .now) (s .args .n) (s .pre .0) (s .pre .1)
+
 same-length : tie.Need-same-length
 same-length c = search needs
+
 returns : tie.Need-returns
 returns c =
     let s = c .before .before .before .before .before in

@@ -9,16 +9,22 @@ use Rattle.partition.proofs.rule1.Lts as lts
 use Rattle.partition.proofs.found_at.Reads as found-at-reads
 use Rattle.partition.proofs.join.Reads as join-reads
 use Rattle.partition.proofs.push.Reads as push-reads
+
 slice-aggregate-found-at : tie.Need-slice-aggregate-found-at
 slice-aggregate-found-at c = search needs
+
 found-at-requires : tie.Need-found-at-requires
 found-at-requires c κs = search needs
+
 push-requires : tie.Need-push-requires
 push-requires c κs = search needs
+
 add-t16 : tie.Need-add-t16
 add-t16 c = search needs
+
 same-length : tie.Need-same-length
 same-length c = search needs
+
 returns : tie.Need-returns
 returns c =
     let s = c .before .before .before .before .before .before .before .before .before .before in
@@ -26,15 +32,19 @@ returns c =
     let f = c .before .before .before .before .before .before .found-at in
     let p = c .before .before .push .ensures in
     (p .0, omega arith, λ g h. rule1-none (a .ids .now) _ (a .n) (a .next) _ g (a .c) (f .last .1 .1 .1 .0) (f .result) h (f .ensures .1 (g .ids) (h .rows)) (c .before .before .before .before .if1 .taken) (p .1))
+
 slice-aggregate-join : tie.Need-slice-aggregate-join
 slice-aggregate-join c = search needs
+
 join-requires : tie.Need-join-requires
 join-requires c κs =
     let s = c .before .before .before .before .before .before .before .before in
     let f = c .before .before .before .before .found-at in
     (s .pre .0 .ids, s .pre .1 .rows, s .pre .2, s .pre .3, omega (arith, c .before .before .if1 .left), omega (arith, f .ensures .0, f .kept .1 .1 .1 .0))
+
 same-length-2 : tie.Need-same-length-2
 same-length-2 c = search needs
+
 returns-2 : tie.Need-returns-2
 returns-2 c =
     let s = c .before .before .before .before .before .before .before .before .before .before .before in

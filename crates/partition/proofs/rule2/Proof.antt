@@ -7,18 +7,25 @@ use Rattle.partition.proofs.rule2.Reads as reads
 use Rattle.partition.proofs.rule2.Lts as lts
 use Rattle.partition.proofs.sift.Reads as sift-reads
 use Rattle.table.proofs.write_zeros.Reads as write-zeros-reads
+
 sift-requires : tie.Need-sift-requires
 sift-requires c κs = search needs
+
 mul-write-zeros : tie.Need-mul-write-zeros
 mul-write-zeros c = search needs
+
 sub-write-zeros : tie.Need-sub-write-zeros
 sub-write-zeros c = search needs
+
 mul-write-zeros-2 : tie.Need-mul-write-zeros-2
 mul-write-zeros-2 c = search needs
+
 write-zeros-requires : tie.Need-write-zeros-requires
 write-zeros-requires c κs = search needs
+
 same-length : tie.Need-same-length
 same-length c = search needs
+
 returns : tie.Need-returns
 returns c =
     let s = c .before .before .before .before .before .before .before .before .before .before in

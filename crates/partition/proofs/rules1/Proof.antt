@@ -25,12 +25,16 @@ Inv-loop ids₀ n next occupied m count₀ id₀ i₀ ids count id i =
 
 abbrev μ-loop : tie.MeasureT-loop
 μ-loop ids₀ n next occupied m count₀ id₀ i₀ ids count id i = m - i
+
 loop-holds : tie.Need-loop-holds Inv-loop μ-loop
 loop-holds c = let s = c .before .before in (omega arith, refl, s .pre .3 .fits, s .pre .4, s .pre .5, omega arith, omega arith, λ g l h k. h)
+
 mul-cell-at : tie.Need-mul-cell-at Inv-loop μ-loop
 mul-cell-at c = search needs
+
 cell-at-requires : tie.Need-cell-at-requires Inv-loop μ-loop
 cell-at-requires c κs = search needs
+
 rule1-requires : tie.Need-rule1-requires Inv-loop μ-loop
 rule1-requires c κs =
     let s = c .before .before .before .before .before .before in
@@ -42,10 +46,13 @@ rule1-requires c κs =
       omega arith,
       omega arith,
     )
+
 add-i : tie.Need-add-i Inv-loop μ-loop
 add-i c = search needs
+
 loop-less : tie.Need-loop-less Inv-loop μ-loop
 loop-less c = search needs
+
 loop-again : tie.Need-loop-again Inv-loop μ-loop
 loop-again c =
     let s = c .before .before .before .before .before .before .before .before .before in
@@ -61,8 +68,10 @@ loop-again c =
       omega arith,
       λ g l h k. rules1-more (a .occupied .now) (a .m) l k g (c .before .before .before .before .before .before .loop .i) (c .before .before .before .before .before .before .loop .ids) (c .before .before .before .before .before .before .loop .count) (c .before .before .before .before .before .before .loop .id) (v .7 g l h k) (omega arith) _ _ _ _ (c .before .before .before .cell-at .ensures) (p .2),
     )
+
 same-length : tie.Need-same-length Inv-loop μ-loop
 same-length c = search needs
+
 returns : tie.Need-returns Inv-loop μ-loop
 returns c =
     let s = c .before .before .before .before in

@@ -24,18 +24,25 @@ Inv-loop ids₀ n emptied m j₀ i₀ ids j i =
 
 abbrev μ-loop : tie.MeasureT-loop
 μ-loop ids₀ n emptied m j₀ i₀ ids j i = n - i
+
 loop-holds : tie.Need-loop-holds Inv-loop μ-loop
 loop-holds c = let s = c .before .before in (omega arith, omega arith, refl, s .pre .2 .fits, refl, λ t l h k. sift-none (s .args .ids .now) l t)
+
 mul-cell-at : tie.Need-mul-cell-at Inv-loop μ-loop
 mul-cell-at c = search needs
+
 cell-at-requires : tie.Need-cell-at-requires Inv-loop μ-loop
 cell-at-requires c κs = search needs
+
 is-among-requires : tie.Need-is-among-requires Inv-loop μ-loop
 is-among-requires c κs = (c .before .before .before .before .before .before .pre .1, c .before .before .before .before .before .before .pre .3)
+
 add-i : tie.Need-add-i Inv-loop μ-loop
 add-i c = search needs
+
 loop-less : tie.Need-loop-less Inv-loop μ-loop
 loop-less c = search needs
+
 loop-again : tie.Need-loop-again Inv-loop μ-loop
 loop-again c =
     let s = c .before .before .before .before .before .before .before .before in
@@ -49,14 +56,19 @@ loop-again c =
       λ t l h k. sift-drop (a .ids .now) (c .before .before .before .before .before .loop .ids) (a .n) t h l (c .before .before .before .before .before .loop .i) (c .before .before .before .before .before .loop .j) (omega arith) (v .4) (omega arith) (v .0) (v .5 t l h k)
           (c .before .is-among .result) (c .before .is-among .ensures l k ∙ ap (has same l) (c .before .before .cell-at .ensures)) (c .if1 .taken),
     )
+
 copy-row-requires : tie.Need-copy-row-requires Inv-loop μ-loop
 copy-row-requires c κs = search needs
+
 add-j : tie.Need-add-j Inv-loop μ-loop
 add-j c = search needs
+
 add-i-2 : tie.Need-add-i-2 Inv-loop μ-loop
 add-i-2 c = search needs
+
 loop-less-2 : tie.Need-loop-less-2 Inv-loop μ-loop
 loop-less-2 c = search needs
+
 loop-again-2 : tie.Need-loop-again-2 Inv-loop μ-loop
 loop-again-2 c =
     let s = c .before .before .before .before .before .before .before .before .before .before .before .before in
@@ -74,8 +86,10 @@ loop-again-2 c =
       λ t l h k. sift-keep (a .ids .now) (c .before .before .before .before .before .before .before .before .before .loop .ids) (a .n) t h l (c .before .before .before .before .before .before .before .before .before .loop .i) (c .before .before .before .before .before .before .before .before .before .loop .j) (omega arith) (v .4) (omega arith) (v .0) (v .5 t l h k)
           (c .before .before .before .before .before .is-among .result) (c .before .before .before .before .before .is-among .ensures l k ∙ ap (has same l) (c .before .before .before .before .before .before .cell-at .ensures)) (c .before .before .before .before .if1 .left) _ q,
     )
+
 same-length : tie.Need-same-length Inv-loop μ-loop
 same-length c = search needs
+
 returns : tie.Need-returns Inv-loop μ-loop
 returns c =
     let s = c .before .before .before .before in

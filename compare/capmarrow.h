@@ -1,0 +1,78 @@
+/* The yard's calls for C: the functions of the static library libcapmarrow.a, which `rt staticlib capmarrow` proves and writes for
+ * x86-64 Linux. Each is proved complete in crates/capmarrow: its answer and every word it leaves in lent memory, for all inputs.
+ *
+ * A slice is a pointer and its number of 64-bit words; slices of one call must not overlap. Each function gives back the scope's
+ * number: 0 done, 1 a slice is too short, 2 the state is not consistent, 3 more than 1,024 events, 4 a coordinate is out of range,
+ * 5 fewer than 2,048 ids are left, 6 more than 4,096 entities, 7 more than 1,024 occupied cells, 8 the answer is longer than its
+ * slice. After any number but 0 and 8 every slice is as found; after 8 only `told` is written.
+ *
+ * `told` has the rest of an answer; the number is 1 if it is shorter than the call's CAPMARROW_TOLD. told[0] is 1 if the entity, cell or id
+ * is found and else 0. Coordinates in words are in two's complement. */
+#ifndef CAPMARROW_H
+#define CAPMARROW_H
+
+#include <stdbool.h>
+#include <stddef.h>
+#include <stdint.h>
+
+#ifdef __cplusplus
+extern "C" {
+#endif
+
+/* How many words a state has. */
+#define CAPMARROW_STATE_LEN 73736
+/* The longest answer of a list: 1,024 cells of four words, or 4,096 entities. */
+#define CAPMARROW_ANSWER_LEN 4096
+/* The longest batch: 1,024 moves of five words. */
+#define CAPMARROW_BATCH_LEN 5120
+
+#define CAPMARROW_TOLD_WHERE 5 /* found, grid, x, y, z */
+#define CAPMARROW_TOLD_ID 2    /* found, id */
+#define CAPMARROW_TOLD_GROUP 9 /* found, grid, cell count, low x, y, z, high x, y, z */
+#define CAPMARROW_TOLD_LIST 2  /* found, how many; after 8: 0, the words needed */
+#define CAPMARROW_TOLD_FLOOD 3 /* found, how many cells, 1 if that was all; after 8: 0, the words needed, 0 */
+
+/* Makes a fresh state whose first id is given; refuses by 1 and 5. */
+uint64_t capmarrow_fresh(uint64_t *state, size_t state_len, uint64_t first_id);
+
+/* Updates the state by a batch: the removals first, one word each (the entity), then the moves, five words each (entity, grid, x, y,
+ * z); refuses by 1 to 7. */
+uint64_t capmarrow_update(uint64_t *state, size_t state_len, const uint64_t *batch, size_t batch_len, uint64_t removals, uint64_t moves);
+
+/* Tells where an entity stands; refuses by 1 and 2. */
+uint64_t capmarrow_where_is(const uint64_t *state, size_t state_len, uint64_t entity, uint64_t *told, size_t told_len);
+
+/* Tells the id of a cell; refuses by 1, 2 and 4. */
+uint64_t capmarrow_id_of(const uint64_t *state, size_t state_len, uint64_t grid, int32_t x, int32_t y, int32_t z, uint64_t *told, size_t told_len);
+
+/* Tells a group by its id; refuses by 1 and 2. */
+uint64_t capmarrow_group(const uint64_t *state, size_t state_len, uint64_t id, uint64_t *told, size_t told_len);
+
+/* Gives the ids, ascending, one word each; refuses by 1, 2 and 8. */
+uint64_t capmarrow_ids(const uint64_t *state, size_t state_len, uint64_t *answer, size_t answer_len, uint64_t *told, size_t told_len);
+
+/* Gives the cells newly occupied in the last batch, ascending, four words each (grid, x, y, z); refuses by 1, 2 and 8. */
+uint64_t capmarrow_newly_occupied(const uint64_t *state, size_t state_len, uint64_t *answer, size_t answer_len, uint64_t *told, size_t told_len);
+
+/* Gives the cells newly emptied in the last batch, ascending, four words each; refuses by 1, 2 and 8. */
+uint64_t capmarrow_newly_emptied(const uint64_t *state, size_t state_len, uint64_t *answer, size_t answer_len, uint64_t *told, size_t told_len);
+
+/* Gives the entities of a cell, ascending, one word each; refuses by 1, 2, 4 and 8. */
+uint64_t capmarrow_entities_in(const uint64_t *state, size_t state_len, uint64_t grid, int32_t x, int32_t y, int32_t z, uint64_t *answer, size_t answer_len, uint64_t *told, size_t told_len);
+
+/* Gives a cell and then its list in list order, four words each; refuses by 1, 2, 4 and 8. */
+uint64_t capmarrow_nearby(const uint64_t *state, size_t state_len, uint64_t grid, int32_t x, int32_t y, int32_t z, uint64_t *answer, size_t answer_len, uint64_t *told, size_t told_len);
+
+/* Gives the centre first and then its neighbours of a radius in cell order, occupied ones only, four words each; an empty centre is not
+ * found, and its neighbours are still given; refuses by 1, 2, 4 and 8. */
+uint64_t capmarrow_cube(const uint64_t *state, size_t state_len, uint64_t grid, int32_t x, int32_t y, int32_t z, uint8_t radius, uint64_t *answer, size_t answer_len, uint64_t *told, size_t told_len);
+
+/* Gives the first cells of the flood from a seed, four words each, to a depth if `deep`, up to a budget of cells; refuses by 1, 2, 4 and
+ * 8. */
+uint64_t capmarrow_flood(const uint64_t *state, size_t state_len, uint64_t grid, int32_t x, int32_t y, int32_t z, bool deep, int32_t depth, uint64_t budget, uint64_t *answer, size_t answer_len, uint64_t *told, size_t told_len);
+
+#ifdef __cplusplus
+}
+#endif
+
+#endif

@@ -1,0 +1,71 @@
+//! The calls on words. Each gives back the scope's number; what a question tells beside its list stands in `told` (found first), and
+//! is written only where the number is 0 or 8.
+//!
+//! A slice of Rust is the pointer and the length that the library asks for, two slices lent at once never overlap where one is
+//! written, and the library's proofs say that it reads and writes nothing else: so each `unsafe` below holds for every argument.
+
+use crate::ffi;
+use crate::Cell;
+
+/// A fresh state in the first words of a slice.
+pub fn fresh(state: &mut [u64], first_id: u64) -> u64 {
+    unsafe { ffi::capmarrow_fresh(state.as_mut_ptr(), state.len(), first_id) }
+}
+
+/// A batch: removals, one word each, then moves, five words each (entity, grid, x, y, z).
+pub fn update(state: &mut [u64], batch: &[u64], removals: u64, moves: u64) -> u64 {
+    unsafe { ffi::capmarrow_update(state.as_mut_ptr(), state.len(), batch.as_ptr(), batch.len(), removals, moves) }
+}
+
+/// Told: found, grid, x, y, z.
+pub fn where_is(state: &[u64], entity: u64, told: &mut [u64]) -> u64 {
+    unsafe { ffi::capmarrow_where_is(state.as_ptr(), state.len(), entity, told.as_mut_ptr(), told.len()) }
+}
+
+/// Told: found, id.
+pub fn id_of(state: &[u64], cell: Cell, told: &mut [u64]) -> u64 {
+    unsafe { ffi::capmarrow_id_of(state.as_ptr(), state.len(), cell.grid, cell.x, cell.y, cell.z, told.as_mut_ptr(), told.len()) }
+}
+
+/// Told: found, grid, count, low x, y, z, high x, y, z.
+pub fn group(state: &[u64], id: u64, told: &mut [u64]) -> u64 {
+    unsafe { ffi::capmarrow_group(state.as_ptr(), state.len(), id, told.as_mut_ptr(), told.len()) }
+}
+
+/// Told: found, count.
+pub fn ids(state: &[u64], answer: &mut [u64], told: &mut [u64]) -> u64 {
+    unsafe { ffi::capmarrow_ids(state.as_ptr(), state.len(), answer.as_mut_ptr(), answer.len(), told.as_mut_ptr(), told.len()) }
+}
+
+/// Told: found, count.
+pub fn newly_occupied(state: &[u64], answer: &mut [u64], told: &mut [u64]) -> u64 {
+    unsafe { ffi::capmarrow_newly_occupied(state.as_ptr(), state.len(), answer.as_mut_ptr(), answer.len(), told.as_mut_ptr(), told.len()) }
+}
+
+/// Told: found, count.
+pub fn newly_emptied(state: &[u64], answer: &mut [u64], told: &mut [u64]) -> u64 {
+    unsafe { ffi::capmarrow_newly_emptied(state.as_ptr(), state.len(), answer.as_mut_ptr(), answer.len(), told.as_mut_ptr(), told.len()) }
+}
+
+/// Told: found, count.
+pub fn entities_in(state: &[u64], c: Cell, answer: &mut [u64], told: &mut [u64]) -> u64 {
+    unsafe { ffi::capmarrow_entities_in(state.as_ptr(), state.len(), c.grid, c.x, c.y, c.z, answer.as_mut_ptr(), answer.len(), told.as_mut_ptr(), told.len()) }
+}
+
+/// Told: found, count.
+pub fn nearby(state: &[u64], c: Cell, answer: &mut [u64], told: &mut [u64]) -> u64 {
+    unsafe { ffi::capmarrow_nearby(state.as_ptr(), state.len(), c.grid, c.x, c.y, c.z, answer.as_mut_ptr(), answer.len(), told.as_mut_ptr(), told.len()) }
+}
+
+/// Told: found, count.
+pub fn cube(state: &[u64], c: Cell, radius: u8, answer: &mut [u64], told: &mut [u64]) -> u64 {
+    unsafe { ffi::capmarrow_cube(state.as_ptr(), state.len(), c.grid, c.x, c.y, c.z, radius, answer.as_mut_ptr(), answer.len(), told.as_mut_ptr(), told.len()) }
+}
+
+/// Told: found, number, whether that was all.
+pub fn flood(state: &[u64], c: Cell, depth: Option<i32>, budget: u64, answer: &mut [u64], told: &mut [u64]) -> u64 {
+    let (deep, most) = (depth.is_some(), depth.unwrap_or(0));
+    unsafe {
+        ffi::capmarrow_flood(state.as_ptr(), state.len(), c.grid, c.x, c.y, c.z, deep, most, budget, answer.as_mut_ptr(), answer.len(), told.as_mut_ptr(), told.len())
+    }
+}

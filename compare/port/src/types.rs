@@ -1,0 +1,130 @@
+//! What is asked and answered, in types.
+
+use std::fmt;
+
+/// A cell: its grid and its signed coordinates. Cells are in the order of grid, then z, then y, then x.
+#[derive(Clone, Copy, PartialEq, Eq, PartialOrd, Ord, Hash)]
+pub struct Cell {
+    pub grid: u64,
+    pub z: i32,
+    pub y: i32,
+    pub x: i32,
+}
+
+impl Cell {
+    pub fn new(grid: u64, x: i32, y: i32, z: i32) -> Self {
+        Cell { grid, z, y, x }
+    }
+
+    /// The four words of a cell in an answer: grid, x, y, z, the last three in two's complement.
+    pub(crate) fn of_words(w: &[u64]) -> Self {
+        Cell::new(w[0], w[1] as i32, w[2] as i32, w[3] as i32)
+    }
+}
+
+impl fmt::Debug for Cell {
+    fn fmt(&self, f: &mut fmt::Formatter<'_>) -> fmt::Result {
+        write!(f, "{}:({},{},{})", self.grid, self.x, self.y, self.z)
+    }
+}
+
+/// A batch: all removals run first, then the moves, each in list order.
+#[derive(Debug, Clone, Default, PartialEq, Eq)]
+pub struct Batch {
+    pub removals: Vec<u64>,
+    pub moves: Vec<(u64, Cell)>,
+}
+
+impl Batch {
+    /// The words of the batch: the removals, one word each, then the moves, five words each.
+    pub fn words(&self) -> Vec<u64> {
+        let mut words = self.removals.clone();
+        for (entity, c) in &self.moves {
+            words.extend([*entity, c.grid, word(c.x), word(c.y), word(c.z)]);
+        }
+        words
+    }
+}
+
+fn word(n: i32) -> u64 {
+    i64::from(n) as u64
+}
+
+/// Why a call was refused: the scope's numbers 1 to 8. A refused call leaves the yard as it was.
+#[derive(Debug, Clone, Copy, PartialEq, Eq)]
+pub enum Refusal {
+    TooShort,
+    NotConsistent,
+    TooManyEvents,
+    OutOfRange,
+    FewIds,
+    TooManyEntities,
+    TooManyCells,
+    AnswerTooLong,
+}
+
+impl Refusal {
+    const ALL: [Refusal; 8] = [
+        Refusal::TooShort,
+        Refusal::NotConsistent,
+        Refusal::TooManyEvents,
+        Refusal::OutOfRange,
+        Refusal::FewIds,
+        Refusal::TooManyEntities,
+        Refusal::TooManyCells,
+        Refusal::AnswerTooLong,
+    ];
+
+    /// The scope's number.
+    pub fn number(self) -> u64 {
+        self as u64 + 1
+    }
+
+    /// The refusal of a number, none for 0.
+    pub(crate) fn of(number: u64) -> Answer<()> {
+        match number.checked_sub(1) {
+            None => Ok(()),
+            Some(at) => Err(Refusal::ALL[at as usize]),
+        }
+    }
+}
+
+impl fmt::Display for Refusal {
+    fn fmt(&self, f: &mut fmt::Formatter<'_>) -> fmt::Result {
+        write!(f, "refused by number {}", self.number())
+    }
+}
+
+impl std::error::Error for Refusal {}
+
+/// An answer, unless the call was refused.
+pub type Answer<T> = Result<T, Refusal>;
+
+/// What is found, or that there is no such entity, cell or id.
+#[derive(Debug, Clone, Copy, PartialEq, Eq)]
+pub enum Lookup<T> {
+    Found(T),
+    NotFound,
+}
+
+/// A group: its grid, its cell count, and its low and its high corner, x, y, z of each.
+#[derive(Debug, Clone, Copy, PartialEq, Eq)]
+pub struct Group {
+    pub grid: u64,
+    pub count: u64,
+    pub corners: [[i32; 3]; 2],
+}
+
+/// A cube: whether its centre is occupied, and its occupied cells, the centre first.
+#[derive(Debug, Clone, PartialEq, Eq)]
+pub struct Cube {
+    pub centre: Lookup<()>,
+    pub cells: Vec<Cell>,
+}
+
+/// A flood: its cells in order, and whether these are all of it.
+#[derive(Debug, Clone, PartialEq, Eq)]
+pub struct Flood {
+    pub cells: Vec<Cell>,
+    pub was_all: bool,
+}

@@ -1,0 +1,122 @@
+//! A yard that keeps its words.
+
+use crate::types::{Answer, Batch, Cell, Cube, Flood, Group, Lookup, Refusal};
+use crate::{calls, MOST_CELLS, MOST_ENTITIES, STATE_LEN};
+
+/// A yard: the words of its state, as docs/STATE.md lays them out.
+#[derive(Clone, PartialEq, Eq)]
+pub struct Yard {
+    words: Vec<u64>,
+}
+
+impl Yard {
+    /// A yard with no entity, whose first id is given.
+    pub fn fresh(first_id: u64) -> Answer<Self> {
+        let mut words = vec![0; STATE_LEN];
+        Refusal::of(calls::fresh(&mut words, first_id))?;
+        Ok(Yard { words })
+    }
+
+    /// A yard of any words, as read from elsewhere: a call on words that are no yard is refused.
+    pub fn of_words(words: Vec<u64>) -> Self {
+        Yard { words }
+    }
+
+    /// The words: two yards are the same exactly if their words are.
+    pub fn words(&self) -> &[u64] {
+        &self.words
+    }
+
+    /// Runs a batch and regroups; a batch that is refused leaves the yard as it was.
+    pub fn update(&mut self, batch: &Batch) -> Answer<()> {
+        let (removals, moves) = (batch.removals.len() as u64, batch.moves.len() as u64);
+        Refusal::of(calls::update(&mut self.words, &batch.words(), removals, moves))
+    }
+
+    /// Where an entity stands.
+    pub fn where_is(&self, entity: u64) -> Answer<Lookup<Cell>> {
+        let mut told = [0; 5];
+        Refusal::of(calls::where_is(&self.words, entity, &mut told))?;
+        Ok(lookup(told[0], || Cell::of_words(&told[1..])))
+    }
+
+    /// The id of a cell.
+    pub fn id_of(&self, cell: Cell) -> Answer<Lookup<u64>> {
+        let mut told = [0; 2];
+        Refusal::of(calls::id_of(&self.words, cell, &mut told))?;
+        Ok(lookup(told[0], || told[1]))
+    }
+
+    /// A group by id.
+    pub fn group(&self, id: u64) -> Answer<Lookup<Group>> {
+        let mut told = [0; 9];
+        Refusal::of(calls::group(&self.words, id, &mut told))?;
+        let corner = |at: usize| [told[at] as i32, told[at + 1] as i32, told[at + 2] as i32];
+        Ok(lookup(told[0], || Group { grid: told[1], count: told[2], corners: [corner(3), corner(6)] }))
+    }
+
+    /// The ids, ascending.
+    pub fn ids(&self) -> Answer<Vec<u64>> {
+        Ok(filled(MOST_CELLS, 1, |answer, told| calls::ids(&self.words, answer, told))?.1)
+    }
+
+    /// The newly occupied cells, ascending.
+    pub fn newly_occupied(&self) -> Answer<Vec<Cell>> {
+        Ok(cells(|answer, told| calls::newly_occupied(&self.words, answer, told))?.1)
+    }
+
+    /// The newly emptied cells, ascending.
+    pub fn newly_emptied(&self) -> Answer<Vec<Cell>> {
+        Ok(cells(|answer, told| calls::newly_emptied(&self.words, answer, told))?.1)
+    }
+
+    /// The entities of a cell, ascending.
+    pub fn entities_in(&self, cell: Cell) -> Answer<Lookup<Vec<u64>>> {
+        let (found, list) = filled(MOST_ENTITIES, 1, |answer, told| calls::entities_in(&self.words, cell, answer, told))?;
+        Ok(lookup(found, || list))
+    }
+
+    /// A cell, then its list in list order.
+    pub fn nearby(&self, cell: Cell) -> Answer<Lookup<Vec<Cell>>> {
+        let (found, list) = cells(|answer, told| calls::nearby(&self.words, cell, answer, told))?;
+        Ok(lookup(found, || list))
+    }
+
+    /// The occupied cells of the cube of a radius about a centre.
+    pub fn cube(&self, centre: Cell, radius: u8) -> Answer<Cube> {
+        let (found, cells) = cells(|answer, told| calls::cube(&self.words, centre, radius, answer, told))?;
+        Ok(Cube { centre: lookup(found, || ()), cells })
+    }
+
+    /// A flood from a seed, to a depth if one is given, up to a budget of cells.
+    pub fn flood(&self, seed: Cell, depth: Option<i32>, budget: u64) -> Answer<Lookup<Flood>> {
+        let mut answer = vec![0; 4 * MOST_CELLS];
+        let mut told = [0; 3];
+        Refusal::of(calls::flood(&self.words, seed, depth, budget, &mut answer, &mut told))?;
+        let cells = answer.chunks(4).take(told[1] as usize).map(Cell::of_words).collect();
+        Ok(lookup(told[0], || Flood { cells, was_all: told[2] == 1 }))
+    }
+}
+
+fn lookup<T>(found: u64, answer: impl FnOnce() -> T) -> Lookup<T> {
+    if found == 1 {
+        Lookup::Found(answer())
+    } else {
+        Lookup::NotFound
+    }
+}
+
+/// Asks for a list of at most `most` items of `wide` words: whether it was found, and its words.
+fn filled(most: usize, wide: usize, ask: impl FnOnce(&mut [u64], &mut [u64]) -> u64) -> Answer<(u64, Vec<u64>)> {
+    let mut answer = vec![0; most * wide];
+    let mut told = [0; 2];
+    Refusal::of(ask(&mut answer, &mut told))?;
+    answer.truncate(told[1] as usize * wide);
+    Ok((told[0], answer))
+}
+
+/// Asks for a list of cells.
+fn cells(ask: impl FnOnce(&mut [u64], &mut [u64]) -> u64) -> Answer<(u64, Vec<Cell>)> {
+    let (found, words) = filled(MOST_CELLS, 4, ask)?;
+    Ok((found, words.chunks(4).map(Cell::of_words).collect()))
+}

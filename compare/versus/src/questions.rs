@@ -1,0 +1,171 @@
+//! Questions that the port answers, each held against the Rust.
+
+use crate::compare::{same, Sides, Verdict};
+use crate::counts::Counts;
+use crate::rng::Rng;
+use capmarrow::{calls, Answer, Cell, Cube, Flood, Lookup, Refusal, Yard, FAR, STATE_LEN};
+
+/// How much is asked after a batch.
+#[derive(Clone, Copy, PartialEq)]
+pub enum Asking {
+    /// Nothing: the words alone are compared.
+    Nothing,
+    /// A few questions of each kind.
+    Some,
+    /// Fewer, for large yards.
+    Few,
+    /// Of every cell and entity.
+    All,
+}
+
+fn answered<T>(answer: Answer<T>) -> Result<T, String> {
+    answer.map_err(|refusal| format!("a question was {refusal}"))
+}
+
+fn found<T>(answer: Option<T>) -> Lookup<T> {
+    answer.map_or(Lookup::NotFound, Lookup::Found)
+}
+
+/// A cell at or near another, in range.
+fn near(c: Cell, far: i32, rng: &mut Rng) -> Cell {
+    let mut step = |n: i32| (n + rng.from(-far, far)).clamp(-FAR, FAR);
+    Cell::new(c.grid, step(c.x), step(c.y), step(c.z))
+}
+
+/// Asks after an accepted batch.
+pub fn ask(sides: &Sides, asking: Asking, rng: &mut Rng, counts: &mut Counts) -> Verdict {
+    if asking == Asking::Nothing {
+        return Ok(());
+    }
+    let yard = Yard::of_words(sides.words.clone());
+    let cells: Vec<Cell> = sides.rust.occupied().into_iter().collect();
+    let entities: Vec<(u64, Cell)> = sides.rust.entities().into_iter().collect();
+    let times = |all: usize, some: usize| match asking {
+        Asking::All => all,
+        Asking::Some => some,
+        Asking::Few | Asking::Nothing => 1,
+    };
+    lists(sides, &yard, counts)?;
+    for k in 0..times(entities.len(), 3).min(entities.len()) {
+        let (entity, at) = entities[if asking == Asking::All { k } else { rng.below(entities.len() as u64) as usize }];
+        same("places of an entity", answered(yard.where_is(entity))?, Lookup::Found(at))?;
+        counts.asked("where_is");
+    }
+    stranger(&yard, &entities, rng, counts)?;
+    let anywhere = Cell::new(rng.below(3), rng.from(-4, 4), rng.from(-4, 4), rng.from(-2, 2));
+    for k in 0..times(cells.len().max(1), 3) {
+        let at = match cells.len() {
+            0 => anywhere,
+            n if asking == Asking::All => cells[k % n],
+            n => near(cells[rng.below(n as u64) as usize], i32::from(rng.once_in(3)), rng),
+        };
+        about(sides, &yard, at, counts)?;
+        flood(sides, &yard, at, asking, rng, counts)?;
+        cube(sides, &yard, near(at, 1, rng), &cells, rng, counts)?;
+    }
+    refusals(sides, cells.first().copied().unwrap_or(anywhere), rng, counts)
+}
+
+/// The questions that name nothing.
+fn lists(sides: &Sides, yard: &Yard, counts: &mut Counts) -> Verdict {
+    let ids = sides.state().groups().into_keys().collect();
+    same("lists of ids", answered(yard.ids())?, ids)?;
+    same("newly occupied cells as asked", answered(yard.newly_occupied())?, sides.rust.newly_occupied())?;
+    same("newly emptied cells as asked", answered(yard.newly_emptied())?, sides.rust.newly_emptied())?;
+    counts.asked("ids");
+    counts.asked("newly_occupied");
+    counts.asked("newly_emptied");
+    Ok(())
+}
+
+/// An entity and an id that are not there.
+fn stranger(yard: &Yard, entities: &[(u64, Cell)], rng: &mut Rng, counts: &mut Counts) -> Verdict {
+    let unknown = (0..).map(|_| rng.next()).find(|e| entities.binary_search_by_key(e, |p| p.0).is_err()).expect("an unknown entity");
+    same("places of an unknown entity", answered(yard.where_is(unknown))?, Lookup::NotFound)?;
+    let next = yard.words()[6];
+    same("groups of an unused id", answered(yard.group(next))?, Lookup::NotFound)?;
+    counts.asked("where_is");
+    counts.asked("group");
+    Ok(())
+}
+
+/// A cell's entities, list and id, and its group.
+fn about(sides: &Sides, yard: &Yard, at: Cell, counts: &mut Counts) -> Verdict {
+    same("entities of a cell", answered(yard.entities_in(at))?, found(sides.rust.entities_in(at)))?;
+    same("nearby cells", answered(yard.nearby(at))?, found(sides.rust.nearby(at)))?;
+    let id = sides.state().ids().get(&at).copied();
+    same("ids of a cell", answered(yard.id_of(at))?, found(id))?;
+    same("whether a cell has an id", id.is_some(), sides.rust.id_of(at).is_some())?;
+    if let Some(id) = id {
+        same("groups by id", answered(yard.group(id))?, found(sides.state().groups().get(&id).copied()))?;
+        counts.asked("group");
+    }
+    counts.asked("entities_in");
+    counts.asked("nearby");
+    counts.asked("id_of");
+    Ok(())
+}
+
+/// Floods with and without a depth, up to a budget at or about their length.
+fn flood(sides: &Sides, yard: &Yard, seed: Cell, asking: Asking, rng: &mut Rng, counts: &mut Counts) -> Verdict {
+    let small = Some(rng.below(6) as i32);
+    let odd = Some(rng.pick(&[-1, i32::MIN, i32::MAX, -3, 255]));
+    let depths: &[Option<i32>] = if asking == Asking::Few { &[None, small] } else { &[None, small, odd] };
+    for depth in depths {
+        let whole = sides.rust.flood(seed, *depth);
+        let long = whole.len() as u64;
+        let budget = rng.pick(&[long, long.saturating_sub(1), long + 1, long / 2, 0, u64::MAX, 1024]);
+        let cut = whole[..long.min(budget) as usize].to_vec();
+        let expected = match sides.rust.nearby(seed) {
+            Some(_) => Lookup::Found(Flood { cells: cut, was_all: long <= budget }),
+            None => Lookup::NotFound,
+        };
+        same("floods", answered(yard.flood(seed, *depth, budget))?, expected)?;
+        counts.asked(if depth.is_some() { "flood to a depth" } else { "flood" });
+    }
+    Ok(())
+}
+
+/// A cube by the Rust's own neighbours, and one of any radius by its occupied cells.
+fn cube(sides: &Sides, yard: &Yard, centre: Cell, cells: &[Cell], rng: &mut Rng, counts: &mut Counts) -> Verdict {
+    let radius = rng.below(4) as u8;
+    let expected = Cube { centre: found(sides.rust.nearby(centre).map(|_| ())), cells: sides.rust.cube(centre, radius) };
+    same("cubes", answered(yard.cube(centre, radius))?, expected)?;
+    counts.asked("cube");
+    let wide = rng.below(256) as u8;
+    let close = |a: i32, b: i32| (i64::from(a) - i64::from(b)).abs() <= i64::from(wide);
+    let within = |c: &&Cell| c.grid == centre.grid && close(c.x, centre.x) && close(c.y, centre.y) && close(c.z, centre.z);
+    let mut all: Vec<Cell> = cells.iter().filter(within).copied().collect();
+    if let Some(i) = all.iter().position(|c| *c == centre) {
+        all[..=i].rotate_right(1);
+    }
+    same("wide cubes", answered(yard.cube(centre, wide))?.cells, all)?;
+    counts.asked("wide cube");
+    Ok(())
+}
+
+/// Refused questions: a state or a slice for the told words that is too short, a cell out of range, an answer that is too long. Each
+/// leaves what it was lent.
+fn refusals(sides: &Sides, at: Cell, rng: &mut Rng, counts: &mut Counts) -> Verdict {
+    let out = [Cell { x: FAR + 1, ..at }, Cell { y: -FAR - 1, ..at }, Cell { z: i32::MIN, ..at }];
+    let mut answer = [9u64; 8];
+    let mut told = [8u64; 3];
+    let short = calls::nearby(&sides.words[..STATE_LEN - 1], at, &mut answer, &mut told);
+    same("numbers of a short state", short, Refusal::TooShort.number())?;
+    let untold = calls::flood(&sides.words, at, None, 1, &mut answer, &mut told[..2]);
+    same("numbers of a short slice for what is told", untold, Refusal::TooShort.number())?;
+    let far = calls::cube(&sides.words, rng.pick(&out), 1, &mut answer, &mut told);
+    same("numbers of a cell out of range", far, Refusal::OutOfRange.number())?;
+    same("slices after a refusal", (answer, told), ([9; 8], [8; 3]))?;
+    counts.asked("what is refused by 1 or 4");
+    let whole = sides.rust.flood(at, None);
+    if !whole.is_empty() {
+        let words = 4 * whole.len() as u64;
+        let mut answer = vec![9u64; words as usize - 1];
+        let number = calls::flood(&sides.words, at, None, u64::MAX, &mut answer, &mut told);
+        same("numbers of an answer that is too long", (number, told[1]), (Refusal::AnswerTooLong.number(), words))?;
+        same("the answer's slice after 8", answer.iter().all(|w| *w == 9), true)?;
+        counts.asked("what is refused by 8");
+    }
+    Ok(())
+}

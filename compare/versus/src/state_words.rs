@@ -1,0 +1,67 @@
+//! A state's words read by docs/STATE.md, without the library.
+
+use crate::plain::touching;
+use capmarrow::{Cell, Group};
+use std::collections::BTreeMap;
+
+const ENTITIES: usize = 8;
+const CELLS: usize = 20_488;
+const OCCUPIED: usize = 51_208;
+const EMPTIED: usize = 55_304;
+const IDS: usize = 59_400;
+const GROUPS: usize = 64_520;
+
+pub struct StateWords<'a>(pub &'a [u64]);
+
+fn axis(word: u64) -> i32 {
+    (word as i64 - (1 << 31)) as i32
+}
+
+/// The cell of four words: grid, z, y, x.
+fn cell(w: &[u64]) -> Cell {
+    Cell::new(w[0], axis(w[3]), axis(w[2]), axis(w[1]))
+}
+
+fn corner(w: &[u64]) -> [i32; 3] {
+    [axis(w[0]), axis(w[1]), axis(w[2])]
+}
+
+/// The list of a cell: a word n stands for the n-th touching cell, counted from 1; 0 ends it.
+fn list(c: Cell, words: &[u64]) -> Vec<Cell> {
+    words.iter().take_while(|n| **n != 0).map(|n| touching(c).nth(*n as usize - 1).expect("26 touching cells")).collect()
+}
+
+impl<'a> StateWords<'a> {
+    fn rows(&self, from: usize, wide: usize, count: usize) -> impl Iterator<Item = &'a [u64]> {
+        self.0[from..from + wide * self.0[count] as usize].chunks(wide)
+    }
+
+    pub fn next_id(&self) -> u64 {
+        self.0[6]
+    }
+
+    pub fn entities(&self) -> BTreeMap<u64, Cell> {
+        self.rows(ENTITIES, 5, 0).map(|row| (row[0], cell(&row[1..]))).collect()
+    }
+
+    pub fn lists(&self) -> BTreeMap<Cell, Vec<Cell>> {
+        self.rows(CELLS, 30, 1).map(|row| (cell(row), list(cell(row), &row[4..]))).collect()
+    }
+
+    pub fn newly_occupied(&self) -> Vec<Cell> {
+        self.rows(OCCUPIED, 4, 2).map(cell).collect()
+    }
+
+    pub fn newly_emptied(&self) -> Vec<Cell> {
+        self.rows(EMPTIED, 4, 3).map(cell).collect()
+    }
+
+    pub fn ids(&self) -> BTreeMap<Cell, u64> {
+        self.rows(IDS, 5, 4).map(|row| (cell(row), row[4])).collect()
+    }
+
+    pub fn groups(&self) -> BTreeMap<u64, Group> {
+        let group = |row: &[u64]| Group { grid: row[1], count: row[2], corners: [corner(&row[3..]), corner(&row[6..])] };
+        self.rows(GROUPS, 9, 5).map(|row| (row[0], group(row))).collect()
+    }
+}

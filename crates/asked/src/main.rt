@@ -1,0 +1,4 @@
+// Plays the script on standard input.
+fn main() {
+    asker::play();
+}

@@ -1,0 +1,139 @@
+// The rows of a state, written by hand.
+use component::Cell;
+ghost use Prim.Native.Nat.{_<_};
+
+// Where each table begins in a state.
+const ENTITIES: usize = 8;
+
+const CELLS: usize = 20488;
+
+const OCCUPIED: usize = 51208;
+
+const EMPTIED: usize = 55304;
+
+const IDS: usize = 59400;
+
+const GROUPS: usize = 64520;
+
+// A word as a place.
+pub fn place(n: u64) -> usize {
+    n as usize
+}
+
+// One word is written, where there is room for it.
+pub fn word(state: &mut [u64; 73744], at: usize, v: u64) {
+    if at < 73744 {
+        state[at] = v;
+    }
+}
+
+// One word is read.
+fn read(state: &[u64; 73744], at: usize) -> u64 {
+    if at < 73744 { state[at] } else { 0 }
+}
+
+// Every word becomes the same.
+pub fn fill(state: &mut [u64; 73744], v: u64) {
+    let mut i = 0;
+    while i < 73744 {
+        state[i] = v;
+        i += 1;
+    }
+}
+
+// Words are changed: of each two numbers from a place to a count on, the first is the place and the second what comes to stand there.
+pub fn change(state: &mut [u64; 73744], given: &[u64; 32], from: usize, count: usize) {
+    let mut i = from;
+    while i < 31 {
+        if i < count {
+            word(state, place(given[i]), given[i + 1]);
+        }
+        i += 2;
+    }
+}
+
+// A count of the header grows by one; the answer is the row that it counts.
+fn next_row(state: &mut [u64; 73744], count: usize) -> usize
+    ensures { λ r. ⌜ r < 4096 ⌝ }
+{
+    let n = read(state, count) % 4096;
+    word(state, count, n + 1);
+    n as usize
+}
+
+// A cell of a grid, whose coordinates are given.
+pub fn cell(grid: u64, x: u64, y: u64, z: u64) -> Cell {
+    Cell {
+        grid,
+        z: 2147483648 + z % 4096,
+        y: 2147483648 + y % 4096,
+        x: 2147483648 + x % 4096,
+    }
+}
+
+// The four words of a cell.
+fn put_cell(state: &mut [u64; 73744], at: usize, c: Cell)
+    requires { ⌜ at < 200000 ⌝ }
+{
+    word(state, at, c.grid);
+    word(state, at + 1, c.z);
+    word(state, at + 2, c.y);
+    word(state, at + 3, c.x);
+}
+
+// The three words of a corner.
+fn put_corner(state: &mut [u64; 73744], at: usize, c: Cell)
+    requires { ⌜ at < 200000 ⌝ }
+{
+    word(state, at, c.x);
+    word(state, at + 1, c.y);
+    word(state, at + 2, c.z);
+}
+
+// One more entity.
+pub fn entity(state: &mut [u64; 73744], e: u64, c: Cell) {
+    let n = next_row(state, 0);
+    word(state, ENTITIES + 5 * n, e);
+    put_cell(state, ENTITIES + 5 * n + 1, c);
+}
+
+// One more cell with its id.
+fn held(state: &mut [u64; 73744], c: Cell, id: u64) {
+    let n = next_row(state, 4);
+    put_cell(state, IDS + 5 * n, c);
+    word(state, IDS + 5 * n + 4, id);
+}
+
+// One more occupied cell with its id and its list's first two numbers; the answer is where the numbers stand.
+pub fn occupied(state: &mut [u64; 73744], c: Cell, id: u64, first: u64, second: u64) -> usize {
+    let n = next_row(state, 1);
+    let at = CELLS + 30 * n;
+    put_cell(state, at, c);
+    word(state, at + 4, first);
+    word(state, at + 5, second);
+    held(state, c, id);
+    at + 4
+}
+
+// One more group record.
+pub fn group(state: &mut [u64; 73744], id: u64, count: u64, low: Cell, high: Cell) {
+    let n = next_row(state, 5);
+    let at = GROUPS + 9 * n;
+    word(state, at, id);
+    word(state, at + 1, low.grid);
+    word(state, at + 2, count);
+    put_corner(state, at + 3, low);
+    put_corner(state, at + 6, high);
+}
+
+// One more newly occupied cell.
+pub fn newly_occupied(state: &mut [u64; 73744], c: Cell) {
+    let n = next_row(state, 2);
+    put_cell(state, OCCUPIED + 4 * n, c);
+}
+
+// One more newly emptied cell.
+pub fn newly_emptied(state: &mut [u64; 73744], c: Cell) {
+    let n = next_row(state, 3);
+    put_cell(state, EMPTIED + 4 * n, c);
+}

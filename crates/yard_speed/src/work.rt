@@ -1,0 +1,111 @@
+// The yard is made, and the updates and the tests of consistency are run in it.
+use crate::events::Move;
+use crate::events::event;
+use crate::events::home;
+use crate::events::walk;
+use consistent::consistent;
+use fresh::fresh;
+use yard::update;
+
+// A move is written as event i of a batch.
+fn put_move(batch: &mut [u64; 5120], i: u64, m: Move) {
+    let at = 5 * (i % 1024) as usize;
+    batch[at] = m.entity;
+    batch[at + 1] = 1;
+    batch[at + 2] = m.x;
+    batch[at + 3] = m.y;
+    batch[at + 4] = m.z;
+}
+
+// The first moves of n entities are written as a batch.
+fn put_homes(batch: &mut [u64; 5120], from: u64, n: u64, is_full: bool) {
+    let mut i = 0;
+    while i < n {
+        put_move(batch, i, home(std::num::wrapping_add_u64(from, i), is_full));
+        i += 1;
+    }
+}
+
+// The 1,024 events of batch j are written.
+fn put_events(batch: &mut [u64; 5120], j: u64, is_full: bool) {
+    let mut i = 0;
+    while i < 1024 {
+        put_move(batch, i, event(i, j, is_full));
+        i += 1;
+    }
+}
+
+// The first moves of n entities are played.
+fn set_some(state: &mut [u64; 73736], batch: &mut [u64; 5120], from: u64, n: u64, is_full: bool) {
+    put_homes(batch, from, n, is_full);
+    update(state, batch, 0, n);
+}
+
+// The yard with all its entities.
+fn set_up(state: &mut [u64; 73736], batch: &mut [u64; 5120], is_full: bool) {
+    fresh(state, 0);
+    if !is_full {
+        set_some(state, batch, 0, 256, false);
+        return;
+    }
+    set_some(state, batch, 0, 1024, true);
+    set_some(state, batch, 1024, 1024, true);
+    set_some(state, batch, 2048, 1024, true);
+    set_some(state, batch, 3072, 1024, true);
+}
+
+// Batch j of one event; the number given back.
+fn run_one(state: &mut [u64; 73736], batch: &mut [u64; 5120], j: u64, is_full: bool) -> u64 {
+    put_move(batch, 0, walk(j, is_full));
+    update(state, batch, 0, 1)
+}
+
+// Batch j of 1,024 events; the number given back.
+fn run_many(state: &mut [u64; 73736], batch: &mut [u64; 5120], j: u64, is_full: bool) -> u64 {
+    put_events(batch, j, is_full);
+    update(state, batch, 0, 1024)
+}
+
+// A test of consistency, as the number that an update would give back.
+fn test(state: &[u64; 73736]) -> u64 {
+    if consistent(state) { 0 } else { 2 }
+}
+
+// What a letter asks for, once; the number given back, and 9 for another letter.
+fn run(state: &mut [u64; 73736], batch: &mut [u64; 5120], letter: u8, j: u64) -> u64 {
+    match letter {
+        b'f' => run_one(state, batch, j, true),
+        b'F' => run_many(state, batch, j, true),
+        b's' => run_one(state, batch, j, false),
+        b'S' => run_many(state, batch, j, false),
+        b'c' => test(state),
+        _ => 9,
+    }
+}
+
+// What a letter asks for is done that often, in a yard of its own; how many were accepted.
+pub fn run_all(state: &mut [u64; 73736], batch: &mut [u64; 5120], letter: u8, count: u64) -> u64 {
+    set_up(state, batch, letter != b's' && letter != b'S');
+    let mut accepted: u64 = 0;
+    let mut j = 0;
+    while j < count {
+        if run(state, batch, letter, std::num::wrapping_add_u64(j, 1)) == 0 {
+            accepted = std::num::wrapping_add_u64(accepted, 1);
+            j += 1;
+        } else {
+            j += 1;
+        }
+    }
+    accepted
+}
+
+// A number that all words of the state have a part in.
+pub fn checksum(state: &[u64; 73736]) -> u64 {
+    let mut sum: u64 = 0;
+    let mut i = 0;
+    while i < 73736 {
+        sum = sum % 36_028_797_018_963_913 * 257 + state[i] % 4_611_686_018_427_387_904;
+        i += 1;
+    }
+    sum
+}
