@@ -21,7 +21,7 @@ ghost use Rattle.scans.specs.Scans.{Lines};
 ghost use Rattle.consistent.specs.Marks.{Markable, Marked};
 
 // 1. Whether the entities are distinct, they and the occupied cells within number.
-pub fn entities_within(state: &[u64]) -> bool
+fn entities_within(state: &[u64]) -> bool
     requires { ⌜ longEnough (now state) ≡ true ⌝ }
     ensures { λ r. ⌜ r ≡ point1 (now (state .entry)) ⌝ }
 {
@@ -94,7 +94,7 @@ fn stood_in(ents: &[u64], n: usize, cells: &[u64], m: usize) -> bool
 }
 
 // 2. Whether the cells with an id, each held once, are exactly those an entity stands in, and so are the occupied cells.
-pub fn cells_exact(state: &[u64]) -> bool
+fn cells_exact(state: &[u64]) -> bool
     requires { ⌜ (longEnough (now state) ≡ true) × (point1 (now state) ≡ true) ⌝ }
     ensures { λ r. ⌜ r ≡ point2 (now (state .entry)) ⌝ }
 {
@@ -118,7 +118,7 @@ pub fn cells_exact(state: &[u64]) -> bool
 }
 
 // 3. Whether each list holds every touching occupied cell once and no other.
-pub fn lists_exact(state: &[u64]) -> bool
+fn lists_exact(state: &[u64]) -> bool
     requires { ⌜ (longEnough (now state) ≡ true) × (point2 (now state) ≡ true) ⌝ }
     ensures { λ r. ⌜ r ≡ point3 (now (state .entry)) ⌝ }
 {
@@ -127,7 +127,7 @@ pub fn lists_exact(state: &[u64]) -> bool
 }
 
 // 4. Whether ids are shared exactly by joined cells.
-pub fn ids_shared(state: &[u64]) -> bool
+fn ids_shared(state: &[u64]) -> bool
     requires { ⌜ (longEnough (now state) ≡ true) × (point2 (now state) ≡ true) × (point3 (now state) ≡ true) ⌝ }
     ensures { λ r. ⌜ r ≡ point4 (now (state .entry)) ⌝ }
 {
@@ -152,7 +152,7 @@ fn same_words(a: &[u64], b: &[u64]) -> bool
 }
 
 // 5. Whether there is one group record for each id that a cell has and no other, its grid, corners and counts exact.
-pub fn records_exact(state: &[u64]) -> bool
+fn records_exact(state: &[u64]) -> bool
     requires { ⌜ (longEnough (now state) ≡ true) × (point2 (now state) ≡ true) ⌝ }
     ensures { λ r. ⌜ r ≡ point5 (now (state .entry)) ⌝ }
 {
@@ -182,7 +182,7 @@ fn ids_below(ids: &[u64], n: usize, next: u64) -> bool
 }
 
 // 6. Whether every id is below the next id.
-pub fn ids_below_next(state: &[u64]) -> bool
+fn ids_below_next(state: &[u64]) -> bool
     requires { ⌜ (longEnough (now state) ≡ true) × (point2 (now state) ≡ true) ⌝ }
     ensures { λ r. ⌜ r ≡ point6 (now (state .entry)) ⌝ }
 {
@@ -206,7 +206,7 @@ fn cells_in_range(s: &[u64], w: usize, at: usize, n: usize) -> bool
 }
 
 // 7. Whether the coordinates are in range.
-pub fn coordinates_in_range(state: &[u64]) -> bool
+fn coordinates_in_range(state: &[u64]) -> bool
     requires { ⌜ (longEnough (now state) ≡ true) × (point1 (now state) ≡ true) ⌝ }
     ensures { λ r. ⌜ r ≡ point7 (now (state .entry)) ⌝ }
 {
@@ -241,7 +241,7 @@ fn all_held(net: &[u64], n: usize, cells: &[u64], m: usize, wanted: bool) -> boo
 }
 
 // 8. Whether both net lists ascend strictly, have at most 1,024 cells each, the first occupied, the second not.
-pub fn nets_in_order(state: &[u64]) -> bool
+fn nets_in_order(state: &[u64]) -> bool
     requires { ⌜ (longEnough (now state) ≡ true) × (point2 (now state) ≡ true) ⌝ }
     ensures { λ r. ⌜ r ≡ point8 (now (state .entry)) ⌝ }
 {

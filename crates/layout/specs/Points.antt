@@ -19,40 +19,40 @@ tidy w most n s = leb n most && areZero (drop (w * n) s)
 abbrev pub listTidy : List ℕ → Bool
 listTidy ws = all (λ n. leb n 26) ws && areZero (drop (length (whilst (ltb 0) ws)) ws)
 
--- 1. The entity rows and the header's last word.
+-- 1. Entities distinct, they and the occupied cells within number. Here too: the entity rows and the header's last word.
 unfoldable pub point1 : List ℕ → Bool
 point1 w =
     eqb (getD w 7 0) 0
     && (tidy 5 mostEntities (entityCount w) (entityWords w)
     && (leb (cellCount w) mostCells && withinNumber (decode w)))
 
--- 2. The rows of occupied cells and of cells with an id.
+-- 2. The cells with an id, each held once, are exactly those an entity stands in. Here too: the rows of cells and of ids.
 unfoldable pub point2 : List ℕ → Bool
 point2 w =
     tidy 30 mostCells (cellCount w) (cellWords w)
     && (tidy 5 mostCells (idCount w) (idWords w) && cellsExact (decode w))
 
--- 3. The words of the lists.
+-- 3. Each list holds every touching occupied cell once and no other. Here too: the words of the lists.
 unfoldable pub point3 : List ℕ → Bool
 point3 w = all listTidy (values (table4 30 (cellCount w) (cellWords w))) && listsExact touch26 (decode w)
 
--- 4.
+-- 4. Ids shared exactly by joined cells.
 unfoldable pub point4 : List ℕ → Bool
 point4 w = idsShared touch26 (decode w)
 
--- 5. The group rows.
+-- 5. One group record for each id that a cell has and no other, its grid, corners and counts exact. Here too: the group rows.
 unfoldable pub point5 : List ℕ → Bool
 point5 w = tidy 9 mostCells (groupCount w) (groupWords w) && recordsExact (decode w)
 
--- 6.
+-- 6. Every id below the next id.
 unfoldable pub point6 : List ℕ → Bool
 point6 w = idsBelowNext (decode w)
 
--- 7.
+-- 7. Coordinates in range.
 unfoldable pub point7 : List ℕ → Bool
 point7 w = coordinatesInRange (decode w)
 
--- 8. The rows of both net lists.
+-- 8. Net lists strictly ascending, at most 1,024 cells each, the first occupied, the second not. Here too: their rows.
 unfoldable pub point8 : List ℕ → Bool
 point8 w =
     tidy 4 mostCells (occupiedCount w) (occupiedWords w)

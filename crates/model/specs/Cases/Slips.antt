@@ -17,7 +17,7 @@ slips =
     } ∷
     -- A cell emptied and refilled in one batch would stay in the net lists.
     record { batches = fill 0 ∷ record { removals = 0 ∷ []; moves = (1, at 0) ∷ [] } ∷ []; seen = nets [] [] ∷ [] } ∷
-    -- A regrouping in the first batch only would leave the second row without ids.
+    -- A regrouping in the first batch only would leave (1,0,0) without an id.
     record { batches = fill 0 ∷ fill 1 ∷ []; seen = ids ((at 0, 0) ∷ (at 1, 0) ∷ []) ∷ [] } ∷
     -- Corners that only grow would still reach (0,0,0).
     record { batches = row ∷ removing 0 ∷ []; seen = corners 0 (corner 1) (corner 3) ∷ [] } ∷

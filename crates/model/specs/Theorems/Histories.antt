@@ -5,7 +5,7 @@ use mathlib.Core.Bool.{Bool}
 use mathlib.Core.List.{List·Memᴰ as Mem}
 use mathlib.Core.Option.{some}
 use lib.Dec.{T}
-use Rattle.model.specs.Cells.{Cell, all26, touch26}
+use Rattle.model.specs.Cells.{Cell, touch26}
 use Rattle.model.specs.Occupancy.{Batch, occupied}
 use Rattle.model.specs.Flood.{listOf, wholeFlood}
 use Rattle.model.specs.Groups.{Group, members}
@@ -15,7 +15,7 @@ use Rattle.model.specs.Consistent.{consistent}
 use Rattle.model.specs.Runs.{Reached}
 use Rattle.model.specs.Laws.Occupied.{Exact}
 use Rattle.model.specs.Laws.Floods.{listOf-exact}
-use Rattle.model.specs.Laws.Touching.{Touching, touching-by}
+use Rattle.model.specs.Laws.Touching.{Touching, touching-26}
 use Rattle.model.specs.Laws.Accepted.{update-accepted}
 use Rattle.model.specs.Laws.Consistency.{Ok, ok-out}
 use Rattle.model.specs.Theorems.NetExact.{Since, net-exact}
@@ -49,20 +49,16 @@ module _ (touch : Cell → Cell → Bool) (laws : Touching touch) {s : State} (r
   pub corners-reached : (a : Cell) (g : ℕ) → idOf s a ≡ some g → (k : Group) × (groupBy s g ≡ some k) × Shows (members (s .groups .ids) g) k
   corners-reached = corners-exact touch laws s reached-consistent
 
--- All 26 offsets give a touching.
-abbrev laws26 : Touching touch26
-laws26 = touching-by all26 tt
-
 -- For all 26.
 module _ {s : State} (r : Reached touch26 s) where
   pub net-26 : (b : Batch) → update touch26 s b .0 ≡ 0 → Since (s .occupancy) (update touch26 s b .1 .occupancy)
-  net-26 = net-reached touch26 laws26 r
+  net-26 = net-reached touch26 touching-26 r
 
   pub lists-26 : (c : Cell) → Mem c (occupied (s .occupancy)) → Exact touch26 (occupied (s .occupancy)) c (listOf (s .occupancy .lists) c)
-  lists-26 = lists-reached touch26 laws26 r
+  lists-26 = lists-reached touch26 touching-26 r
 
   pub flood-26 : (seed : Cell) → Mem seed (occupied (s .occupancy)) → Whole touch26 (occupied (s .occupancy)) seed (wholeFlood (s .occupancy) seed)
-  flood-26 = flood-reached touch26 laws26 r
+  flood-26 = flood-reached touch26 touching-26 r
 
   pub corners-26 : (a : Cell) (g : ℕ) → idOf s a ≡ some g → (k : Group) × (groupBy s g ≡ some k) × Shows (members (s .groups .ids) g) k
-  corners-26 = corners-reached touch26 laws26 r
+  corners-26 = corners-reached touch26 touching-26 r
