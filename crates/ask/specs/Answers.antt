@@ -22,7 +22,7 @@ use Rattle.layout.specs.State.{decode}
 use Rattle.layout.specs.Points.{longEnough, consistentWords}
 use Rattle.ask.specs.declared.Where.{Where}
 use Rattle.ask.specs.declared.IdOf.{IdOf}
-use Rattle.flood.specs.Answers.{answerWords}
+use Rattle.map.specs.Answers.{answerWords}
 use Rattle.ask.specs.declared.GroupOf.{GroupOf}
 use Rattle.ask.specs.declared.Listing.{Listing}
 use Rattle.ask.specs.declared.Visited.{Visited}

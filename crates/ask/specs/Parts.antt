@@ -1,8 +1,8 @@
 -- What the parts of a question speak of.
-use Prim.Native.Nat.{ℕ, _+_}
-use mathlib.Core.Bool.{Bool, _&&_, not}
+use Prim.Native.Nat.{ℕ}
+use mathlib.Core.Bool.{not}
 use mathlib.Core.List.{List, []}
-use lib.Dec.{eqb, leb}
+use lib.Dec.{eqb}
 use lib.ListN.{length}
 use Rattle.model.specs.Lists.{keep, keys}
 use Rattle.model.specs.Questions.{Listed}
@@ -25,12 +25,3 @@ standingIn t c = keys (keep (λ (p : ℕ × Cell). same c (p .1)) t)
 -- A list that is found if it holds any.
 abbrev pub anyOf : List ℕ → Listed ℕ
 anyOf l = record { found = not (eqb (length l) 0); list = l }
-
--- Whether two numbers are at most r apart.
-abbrev pub apart : ℕ → ℕ → ℕ → Bool
-apart r m n = leb m (n + r) && leb n (m + r)
-
--- Whether d is of c's grid, at most r from it on each axis, and another cell.
-abbrev pub beside : ℕ → Cell → Cell → Bool
-beside r c d =
-    eqb (d .grid) (c .grid) && (apart r (c .z) (d .z) && (apart r (c .y) (d .y) && (apart r (c .x) (d .x) && not (same c d))))

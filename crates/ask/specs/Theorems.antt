@@ -17,7 +17,7 @@ use Rattle.model.specs.Questions.{whereIs, groupBy, entitiesIn, idList, nearby,
 use Rattle.model.specs.Questions as question
 use Rattle.layout.specs.State.{decode}
 use Rattle.layout.specs.Points.{longEnough, consistentWords}
-use Rattle.flood.specs.Answers.{answerWords}
+use Rattle.map.specs.Answers.{answerWords}
 use Rattle.ask.specs.declared.Where.{Where}
 use Rattle.ask.specs.declared.IdOf.{IdOf}
 use Rattle.ask.specs.declared.GroupOf.{GroupOf}
@@ -26,7 +26,7 @@ use Rattle.ask.specs.declared.Flooding.{Flooding}
 use Rattle.ask.specs.declared.Depth.{Depth}
 use Rattle.ask.specs.Numbers.{whereNumber, idNumber, groupNumber, listingNumber, floodingNumber, Exactly}
 use Rattle.ask.specs.Answers.{refusal, cellRefusal, whereFrom, whereOf, idFrom, idOf, groupFrom, groupOf, cornersOf, visited, depthOf, idsOf, occupiedOf, emptiedOf, entitiesOf, nearbyOf, cubeOf, floodOf}
-use Rattle.ask.specs.Told.{one-answer, where-done, id-done, group-done, lookup-told, cell-told, list-told, cell-list-told, listing-done, flooding-done, list-kept}
+use Rattle.ask.specs.Laws.Told.{one-answer, where-done, id-done, group-done, lookup-told, cell-told, list-told, cell-list-told, listing-done, flooding-done, list-kept}
 
 -- The number of where an entity stands.
 pub where-told : (w : List ℕ) (e : ℕ) → Exactly (whereNumber (whereOf w e)) (longEnough w) (consistentWords w) true false

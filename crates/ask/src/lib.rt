@@ -2,28 +2,35 @@
 // of range by 4, and an answer that is longer than the slice for it by 8, in that order.
 use component::Cell;
 use component::CellId;
+use layout::CELLS;
+use layout::EMPTIED;
+use layout::ENTITIES;
+use layout::GROUPS;
+use layout::IDS;
+use layout::OCCUPIED;
+use layout::STATE_LEN;
 use table::Place;
 ghost use mathlib.Core.Path.{_≡_};
 ghost use mathlib.Core.Bool.{true};
-ghost use mathlib.Core.List.{_∷_, [], _++_};
+ghost use mathlib.Core.List.{_∷_, []};
 ghost use Prim.Native.Nat.{_+_, _*_, _≤_, _<_, min};
 ghost use lib.Dec.{eqb};
 ghost use lib.ListN.{length, getD, take};
 ghost use Rattle.component.specs.Range.{cellInRange};
 ghost use Rattle.component.specs.Stored.{unbiased};
-ghost use Rattle.model.specs.Lists.{get, has, keys, keep, gather};
+ghost use Rattle.model.specs.Lists.{get, has, keys, gather};
 ghost use Rattle.model.specs.Cells.{same};
 ghost use Rattle.model.specs.Flood.{cutAt, flood as floodBy};
 ghost use Rattle.model.specs.Questions.{nearby as nearbyBy, cube as cubeBy};
-ghost use Rattle.table.specs.Rows.{table1, table4, isTable1, isTable4};
+ghost use Rattle.table.specs.Rows.{table1, isTable1, isTable4};
 ghost use Rattle.layout.specs.Rows.{entitiesIn, cellsIn, netIn, idsIn, groupsIn};
 ghost use Rattle.layout.specs.State.{entityWords, cellWords, occupiedWords, emptiedWords, idWords, groupWords};
 ghost use Rattle.layout.specs.Points.{longEnough};
-ghost use Rattle.flood.specs.Rows.{rowCell};
-ghost use Rattle.flood.specs.Standing.{Cells, Floodable};
-ghost use Rattle.flood.specs.Answers.{answerWords, Queued, cellsOfRows};
+ghost use Rattle.map.specs.Rows.{rowCell};
+ghost use Rattle.map.specs.Standing.{Cells, Floodable};
+ghost use Rattle.map.specs.Answers.{answerWords, Queued, cellsOfRows};
 ghost use Rattle.ask.specs.Answers.{refusal, cellRefusal, whereFrom, whereOf, idFrom, idOf, groupFrom, groupOf, cornersFrom, cornersOf, listed, listedNumbers, listedCells, there, flooded, depthOf, idsOf, entitiesOf, occupiedOf, emptiedOf, nearbyOf, cubeOf, floodOf};
-ghost use Rattle.ask.specs.Parts.{having, standingIn, anyOf, apart, beside};
+ghost use Rattle.ask.specs.Parts.{having, standingIn, anyOf};
 
 // Where an entity stands.
 pub enum Where {
@@ -110,7 +117,7 @@ fn entity_words(state: &[u64]) -> &[u64]
     requires { ⌜ longEnough (now state) ≡ true ⌝ }
     ensures { λ r. ⌜ now r ≡ entityWords (now (state .entry)) ⌝ }
 {
-    &state[8..20488]
+    &state[ENTITIES..CELLS]
 }
 
 // The words of the occupied cells.
@@ -118,7 +125,7 @@ fn cell_words(state: &[u64]) -> &[u64]
     requires { ⌜ longEnough (now state) ≡ true ⌝ }
     ensures { λ r. ⌜ now r ≡ cellWords (now (state .entry)) ⌝ }
 {
-    &state[20488..51208]
+    &state[CELLS..OCCUPIED]
 }
 
 // The words of the newly occupied cells.
@@ -126,7 +133,7 @@ fn occupied_words(state: &[u64]) -> &[u64]
     requires { ⌜ longEnough (now state) ≡ true ⌝ }
     ensures { λ r. ⌜ now r ≡ occupiedWords (now (state .entry)) ⌝ }
 {
-    &state[51208..55304]
+    &state[OCCUPIED..EMPTIED]
 }
 
 // The words of the newly emptied cells.
@@ -134,7 +141,7 @@ fn emptied_words(state: &[u64]) -> &[u64]
     requires { ⌜ longEnough (now state) ≡ true ⌝ }
     ensures { λ r. ⌜ now r ≡ emptiedWords (now (state .entry)) ⌝ }
 {
-    &state[55304..59400]
+    &state[EMPTIED..IDS]
 }
 
 // The words of the cells with an id.
@@ -142,7 +149,7 @@ fn id_words(state: &[u64]) -> &[u64]
     requires { ⌜ longEnough (now state) ≡ true ⌝ }
     ensures { λ r. ⌜ now r ≡ idWords (now (state .entry)) ⌝ }
 {
-    &state[59400..64520]
+    &state[IDS..GROUPS]
 }
 
 // The words of the groups.
@@ -150,7 +157,7 @@ fn group_words(state: &[u64]) -> &[u64]
     requires { ⌜ longEnough (now state) ≡ true ⌝ }
     ensures { λ r. ⌜ now r ≡ groupWords (now (state .entry)) ⌝ }
 {
-    &state[64520..73736]
+    &state[GROUPS..STATE_LEN]
 }
 
 // A word of the header.
@@ -345,7 +352,7 @@ fn net_into(rows: &[u64], n: usize, words: &mut [u64])
     let mut i = 0;
     while i < n {
         let c = table::cell_at(rows, 4 * i);
-        flood::write_cell(words, 4 * i, c);
+        map::write_cell(words, 4 * i, c);
         i += 1;
     }
 }
@@ -437,7 +444,7 @@ fn give_nearby(cells: &[u64], n: usize, c: Cell, answer: &mut [u64]) -> Listing
     let p = table::find4(cells, 30, n, c);
     match p {
         Place::Found(i) => {
-            let k = flood::nearby_into(cells, n, i, &mut words);
+            let k = map::nearby_into(cells, n, i, &mut words);
             give(true, k, &words, 4 * k, answer)
         }
         Place::Missing(_) => give(false, 0, &words, 0, answer),
@@ -457,45 +464,6 @@ pub fn nearby(state: &[u64], cell: CellId, answer: &mut [u64]) -> Listing
     give_nearby(rows, n, component::stored(cell), answer)
 }
 
-// Whether two numbers are at most r apart.
-fn are_apart(r: u64, m: u64, n: u64) -> bool
-    ensures { λ t. ⌜ t ≡ apart r m n ⌝ }
-{
-    if m <= n { n - m <= r } else { m - n <= r }
-}
-
-// Whether d is of c's grid, at most r from it on each axis, and another cell.
-fn is_beside(r: u64, c: Cell, d: Cell) -> bool
-    ensures { λ t. ⌜ t ≡ beside r c d ⌝ }
-{
-    let g = d.grid == c.grid;
-    let z = are_apart(r, c.z, d.z);
-    let y = are_apart(r, c.y, d.y);
-    let x = are_apart(r, c.x, d.x);
-    let same = component::same_cell(c, d);
-    g & (z & (y & (x & !same)))
-}
-
-// The occupied cells beside c come to stand in words behind the first from cells; the answer is how many stand there then.
-fn beside_into(cells: &[u64], n: usize, c: Cell, r: u64, words: &mut [u64], from: usize) -> usize
-    requires { ⌜ (30 * n ≤ length (now cells)) × (4 * (from + n) ≤ length (now words)) ⌝ }
-    ensures { λ k. ⌜ (k ≤ from + n) × (take (4 * k) (now (words .exit)) ≡ take (4 * from) (now (words .entry)) ++ gather answerWords (keep (beside r c) (keys (table4 30 n (now (cells .entry)))))) ⌝ }
-{
-    let mut k = from;
-    let mut i = 0;
-    while i < n {
-        let d = table::cell_at(cells, 30 * i);
-        if is_beside(r, c, d) {
-            flood::write_cell(words, 4 * k, d);
-            k += 1;
-            i += 1;
-        } else {
-            i += 1;
-        }
-    }
-    k
-}
-
 // The centre if it is occupied, then the occupied cells beside it, by the rows of the occupied cells.
 fn give_cube(cells: &[u64], n: usize, c: Cell, radius: u8, answer: &mut [u64]) -> Listing
     requires { ⌜ Cells (now cells) n (cellsIn n (now cells)) × (cellInRange c ≡ true) × (n ≤ 1024) ⌝ }
@@ -505,12 +473,12 @@ fn give_cube(cells: &[u64], n: usize, c: Cell, radius: u8, answer: &mut [u64]) -
     let p = table::find4(cells, 30, n, c);
     match p {
         Place::Found(_) => {
-            flood::write_cell(&mut words, 0, c);
-            let k = beside_into(cells, n, c, radius as u64, &mut words, 1);
+            map::write_cell(&mut words, 0, c);
+            let k = map::cube_into(cells, n, c, radius as u64, &mut words, 1);
             give(true, k, &words, 4 * k, answer)
         }
         Place::Missing(_) => {
-            let k = beside_into(cells, n, c, radius as u64, &mut words, 0);
+            let k = map::cube_into(cells, n, c, radius as u64, &mut words, 0);
             give(false, k, &words, 4 * k, answer)
         }
     }
@@ -536,7 +504,7 @@ fn left_by(cells: &[u64], n: usize, queue: &[u64], count: usize, seed: usize, de
 {
     match depth {
         Depth::Whole => count,
-        Depth::AtMost(d) => flood::depth_cut(cells, n, queue, count, seed, d),
+        Depth::AtMost(d) => map::depth_cut(cells, n, queue, count, seed, d),
     }
 }
 
@@ -565,13 +533,13 @@ fn flood_over(
     requires { ⌜ Floodable (now cells) n seed 1 (now marks) (now queue) × Cells (now cells) n (cellsIn n (now cells)) × (n ≤ 1024) ⌝ }
     ensures { λ r. ⌜ (r, now (answer .exit)) ≡ flooded true (floodBy (having (cellsIn n (now (cells .entry))) .occupancy) (rowCell (now (cells .entry)) seed) (depthOf depth) budget) (now (answer .entry)) ⌝ }
 {
-    let whole = flood::flood_rows(cells, n, seed, 1, marks, queue);
+    let whole = map::flood_rows(cells, n, seed, 1, marks, queue);
     let left = left_by(cells, n, queue, whole, seed, depth);
     let number = least(left, budget);
     if answer.len() < 4 * number {
         return Flooding::TooLong(4 * number);
     }
-    flood::flood_into(cells, n, queue, number, answer);
+    map::flood_into(cells, n, queue, number, answer);
     let was_all = left as u64 <= budget;
     Flooding::Found(Visited { number, was_all })
 }

@@ -1,19 +1,12 @@
 // The rows of a state, written by hand.
 use component::Cell;
+use layout::CELLS;
+use layout::EMPTIED;
+use layout::ENTITIES;
+use layout::GROUPS;
+use layout::IDS;
+use layout::OCCUPIED;
 ghost use Prim.Native.Nat.{_<_};
-
-// Where each table begins in a state.
-const ENTITIES: usize = 8;
-
-const CELLS: usize = 20488;
-
-const OCCUPIED: usize = 51208;
-
-const EMPTIED: usize = 55304;
-
-const IDS: usize = 59400;
-
-const GROUPS: usize = 64520;
 
 // A word as a place.
 pub fn place(n: u64) -> usize {

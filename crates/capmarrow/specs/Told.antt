@@ -8,7 +8,7 @@ use lib.IntN.{ℤ, pos}
 use lib.ListN.{length, drop, getD}
 use Rattle.component.specs.declared.CellId.{CellId}
 use Rattle.component.specs.Stored.{biased}
-use Rattle.flood.specs.Answers.{signedWord}
+use Rattle.map.specs.Answers.{signedWord}
 use Rattle.ask.specs.declared.Where.{Where}
 use Rattle.ask.specs.declared.IdOf.{IdOf}
 use Rattle.ask.specs.declared.GroupOf.{GroupOf}

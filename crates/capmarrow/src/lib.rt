@@ -23,7 +23,7 @@ fn word(n: i32) -> u64
 {
     let coord = CellCoord { x: n, y: 0, z: 0 };
     let mut row = [0u64; 4];
-    flood::write_cell(&mut row, 0, component::stored(CellId { grid: 0, coord }));
+    map::write_cell(&mut row, 0, component::stored(CellId { grid: 0, coord }));
     row[1]
 }
 

@@ -4,7 +4,7 @@ use native.Mathlib.Omega.{arith}
 use native.Mathlib.Nat.{mul-le-mul}
 use mathlib.Core.Path.{_≡_}
 use Rattle.component.specs.Around.{side, centre, stepN, place, neighbourCount, Above}
-use Rattle.component.specs.Neighbours.{step-below, centre-below, quot-below}
+use Rattle.component.specs.Laws.Neighbours.{step-below, centre-below, quot-below}
 use Rattle.component.specs.declared.Cell.{Cell}
 
 module _ (r : ℕ) (h : r ≤ 255) where

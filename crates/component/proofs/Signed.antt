@@ -14,8 +14,8 @@ use mir.Facts.{toZ-ofZ, sfits-widen, toZ-pos}
 use Rattle.component.specs.Coord.{byAxis}
 use Rattle.component.specs.declared.CellCoord.{CellCoord}
 use Rattle.component.specs.Stored.{biasBy, biased, unbiased}
-use Rattle.component.specs.StoredLaws.{plus-bias, bias-below, sub-up, sub-down}
-use Rattle.component.specs.Tests.{le-or-lt}
+use Rattle.component.specs.Laws.Stored.{plus-bias, bias-below, sub-up, sub-down}
+use Rattle.component.specs.Laws.Tests.{le-or-lt}
 
 -- A call's answer, handed on by its bits.
 pub given-back : {r n : ℤ} → r ≡ n → SFits w32 r → toZ w32 (ofZ w32 r) ≡ n

@@ -92,9 +92,16 @@ pub fn same_cell(a: Cell, b: Cell) -> bool
 pub fn comes_before(a: Cell, b: Cell) -> bool
     ensures { λ r. ⌜ r ≡ below a b ⌝ }
 {
-    (a.grid < b.grid)
-        | ((a.grid == b.grid)
-            & ((a.z < b.z) | ((a.z == b.z) & ((a.y < b.y) | ((a.y == b.y) & (a.x < b.x))))))
+    if a.grid != b.grid {
+        return a.grid < b.grid;
+    }
+    if a.z != b.z {
+        return a.z < b.z;
+    }
+    if a.y != b.y {
+        return a.y < b.y;
+    }
+    a.x < b.x
 }
 
 // Whether a stored coordinate is that of a coordinate from MIN to MAX.

@@ -1,3 +1,3 @@
 pub mod Answer
-pub mod Image
 pub mod Theorems
+pub mod Laws

@@ -10,8 +10,8 @@ use Rattle.model.specs.Update.{fewIds, fresh}
 use Rattle.model.specs.Theorems.StaysConsistent.{consistent-fresh}
 use Rattle.layout.specs.State.{stateLen, encode, decode}
 use Rattle.layout.specs.Points.{longEnough, consistentWords}
-use Rattle.layout.specs.DecodeEncode.{decode-longer}
-use Rattle.layout.specs.Canonical.{image-consistent}
+use Rattle.layout.specs.Theorems.DecodeEncode.{decode-longer}
+use Rattle.layout.specs.Theorems.Canonical.{image-consistent}
 use Rattle.fresh.specs.Answer.{freshOf}
 
 -- Words that are accepted are consistent afterwards, and stand for the fresh state.

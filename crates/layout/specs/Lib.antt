@@ -2,14 +2,5 @@ pub mod Rows
 pub mod State
 pub mod Points
 pub mod Facts
-pub mod NumberLaws
-pub mod Zeros
-pub mod RowLaws
-pub mod ImageLaws
-pub mod Lengths
-pub mod Parts
-pub mod Fitting
-pub mod Standing
-pub mod DecodeEncode
-pub mod Orderly
-pub mod Canonical
+pub mod Laws
+pub mod Theorems

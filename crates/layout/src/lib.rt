@@ -7,11 +7,27 @@ ghost use Prim.Native.Nat.{_-_};
 ghost use Rattle.layout.specs.State.{stateLen};
 ghost use Rattle.layout.specs.Rows.{orSelf, neighbourOf};
 
+// Where each table begins in a state.
+pub const ENTITIES: usize = 8;
+
+pub const CELLS: usize = 20488;
+
+pub const OCCUPIED: usize = 51208;
+
+pub const EMPTIED: usize = 55304;
+
+pub const IDS: usize = 59400;
+
+pub const GROUPS: usize = 64520;
+
+// How many words a state has, which is where the last table ends.
+pub const STATE_LEN: usize = 73736;
+
 // How many words a state has.
 pub fn state_len() -> usize
     ensures { λ r. ⌜ r ≡ stateLen ⌝ }
 {
-    73736
+    STATE_LEN
 }
 
 // One less, and 0 of 0.

@@ -7,7 +7,7 @@ use lib.Dec.{eqb}
 use lib.ListN.{length, getD}
 use Rattle.model.specs.Lists.{all, count}
 use Rattle.model.specs.Consistent.{agree}
-use Rattle.flood.specs.Standing.{Stands}
+use Rattle.map.specs.Standing.{Stands}
 
 -- The id of row i.
 abbrev pub idAt : List ℕ → ℕ → ℕ

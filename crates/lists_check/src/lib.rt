@@ -1,22 +1,23 @@
 // Whether the lists of the occupied cells are exact, and ids shared exactly by joined cells.
 use component::Cell;
-use scans::holds;
 use table::cell_at;
+use table::find4_near;
+use table::index;
+use table::is_found;
 use table::zero_from;
 ghost use mathlib.Core.Path.{_≡_};
-ghost use mathlib.Core.Bool.{true, cond, _&&_, not};
+ghost use mathlib.Core.Bool.{true, cond, not};
 ghost use Prim.Native.Nat.{_+_, _*_, _≤_, _<_};
 ghost use lib.ListN.{length};
 ghost use lib.Dec.{eqb, leb, ltb};
 ghost use Rattle.component.specs.Touch.{touches};
 ghost use Rattle.model.specs.Lists.{all, has, keep, whilst, keys, count};
 ghost use mathlib.Core.List.{List};
-ghost use Rattle.model.specs.Cells.{Cell as CellOf, same, touch26};
+ghost use Rattle.model.specs.Cells.{Cell as CellOf, touch26};
 ghost use Rattle.model.specs.Laws.Shared.{sharedIn};
-ghost use Rattle.flood.specs.Standing.{Cells, Stands};
-ghost use Rattle.model.specs.Consistent.{listExact};
+ghost use Rattle.map.specs.Standing.{Cells, Stands};
 ghost use Rattle.table.specs.Rows.{table4, isTable4};
-ghost use Rattle.layout.specs.Rows.{neighbourOf, listCells, idsIn};
+ghost use Rattle.layout.specs.Rows.{idsIn};
 ghost use Rattle.layout.specs.Points.{listTidy};
 ghost use Rattle.lists_check.specs.Lists.{rightTimes, listRight, rowRight};
 ghost use Rattle.lists_check.specs.Parts.{Labelled};
@@ -86,11 +87,13 @@ fn numbers_right(list: &[u64], cells: &[u64], m: usize, c: Cell) -> bool
     requires { ⌜ isTable4 30 m (now cells) ≡ true ⌝ }
     ensures { λ r. ⌜ r ≡ all (rightTimes (keys (table4 30 m (now (cells .entry)))) c (now (list .entry))) (count 1 26) ⌝ }
 {
+    let mut near = 0;
     let mut i: usize = 0;
     while i < 26 {
         let v = i as u64 + 1;
-        let h = holds(cells, m, layout::neighbour_of(c, v));
-        if times(list, v) != once(h) {
+        let p = find4_near(cells, 30, m, layout::neighbour_of(c, v), near);
+        near = index(p);
+        if times(list, v) != once(is_found(p)) {
             return false;
         }
         i += 1;
@@ -153,7 +156,7 @@ fn mark_parts(cells: &[u64], m: usize, marks: &mut [u64], queue: &mut [u64])
     let mut i = 0;
     while i < m {
         if marks[i] == 0 {
-            flood::flood_rows(cells, m, i, i as u64 + 1, marks, queue);
+            map::flood_rows(cells, m, i, i as u64 + 1, marks, queue);
             i += 1;
         } else {
             i += 1;

@@ -4,18 +4,18 @@ use mathlib.Core.Path.{_≡_, ap, _∙_}
 use mathlib.Core.Bool.{true, false, cond}
 use mathlib.Core.List.{List, [], _++_}
 use lib.ListN.{length}
-use Rattle.component.specs.AdjacentLaws.{range-room}
+use Rattle.component.specs.Laws.Adjacent.{range-room}
 use native.Mathlib.Omega.{arith}
 use Rattle.model.specs.Lists.{has, keys, put, dropKey, change}
 use Rattle.model.specs.Cells.{Cell, same, below, touch26}
 use Rattle.model.specs.Occupancy.{Occupancy, openCell, closeCell}
 use Rattle.layout.specs.Rows.{neighbourOf}
 use Rattle.table.specs.Rows.{cell, cellWords, key4, rest4, table4, stored4, isTable4, hasRoom4}
-use Rattle.table.specs.Next.{room-space}
+use Rattle.table.specs.Laws.Next.{room-space}
 use Rattle.map.specs.declared.Counts.{Counts}
 use Rattle.map.specs.Told.{Shows, padded, told, noted}
 use Rattle.map.specs.Held.{Stored, Opens, Closes}
-use Rattle.map.specs.ShownLaws.{Shown, shown-stored, stored-shown, occupied-room, open-lists, drop-lists, close-lists, nets-crossed}
+use Rattle.map.specs.Laws.Shown.{Shown, shown-stored, stored-shown, occupied-room, open-lists, drop-lists, close-lists, nets-crossed}
 
 -- What a put asks, of a row whose length is known.
 pub put-asks : (w m : ℕ) (s row : List ℕ) → length row ≡ w → isTable4 w m s ≡ true → w * suc m ≤ length s → (isTable4 (length row) m s ≡ true) × (hasRoom4 (length row) m s (key4 row) ≡ true)

@@ -6,3 +6,6 @@ pub mod Passing
 pub mod Moving
 pub mod Playing
 pub mod Tallying
+pub mod Following
+pub mod Marking
+pub mod Wave

@@ -11,14 +11,14 @@ use Rattle.component.specs.declared.Cell.{Cell}
 use Rattle.model.specs.Lists.{keys, get}
 use Rattle.table.specs.declared.Place.the-variants.{Found, Missing}
 use Rattle.table.specs.Rows.{number, cell, cellAt, table1, table4, isTable1, isTable4, placeOf}
-use Rattle.table.specs.Kinds.{number-lawful, cell-lawful}
-use Rattle.table.specs.Words.{rest-at}
-use Rattle.table.specs.Answers.{found-below, found-rest, missing-none}
-use Rattle.table.specs.Images.{table-facts}
+use Rattle.table.specs.Laws.Kinds.{number-lawful, cell-lawful}
+use Rattle.table.specs.Laws.Words.{rest-at}
+use Rattle.table.specs.Laws.Answers.{found-below, found-rest, missing-none}
+use Rattle.table.specs.Laws.Images.{table-facts}
 use Rattle.map.specs.Held.{counted}
 use Rattle.map.specs.declared.Stand.the-variants.{Inside, Nowhere}
 use Rattle.map.specs.Stands.{standOf}
-use Rattle.map.specs.TallyLaws.{entity-cell}
+use Rattle.map.specs.Laws.Tally.{entity-cell}
 
 module _ (m : ℕ) (s : List ℕ) (ok : isTable4 5 m s ≡ true) (c : Cell) (i : ℕ) where
   -- The row of a cell that is found is within the words.

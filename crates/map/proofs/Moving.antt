@@ -15,44 +15,25 @@ use Rattle.model.specs.Laws.Sorted.{Asc}
 use Rattle.model.specs.Laws.Tables.{keys-length, free-of, get-drop-self, put-length-new, put-length-old, drop-length}
 use Rattle.model.specs.Laws.Occupied.{occupied-leave}
 use Rattle.layout.specs.Rows.{entityRow, entitiesImage}
-use Rattle.layout.specs.RowLaws.{entities-wide}
+use Rattle.layout.specs.Laws.Rows.{entities-wide}
 use Rattle.table.specs.Rows.{number, cellWords, table1, stored1, hasRoom1}
-use Rattle.table.specs.Kinds.{number-lawful}
-use Rattle.table.specs.Next.{room-space, put-next, drop-next}
+use Rattle.table.specs.Laws.Kinds.{number-lawful}
+use Rattle.table.specs.Laws.Next.{room-space, put-next, drop-next}
 use Rattle.map.specs.declared.Counts.{Counts}
 use Rattle.map.specs.Told.{Shows}
 use Rattle.map.specs.Held.{Held, Peopled, Enters, EntersCell, Leaves, LeavesCell, Moves}
-use Rattle.map.specs.EachLaws.{keys-each, put-each, drop-each, image-shows, shows-image, shows-count, shows-fit}
-use Rattle.map.specs.CrowdLaws.{put-over}
+use Rattle.map.specs.Laws.Each.{keys-each, put-each, drop-each, image-shows, shows-image, shows-count, shows-fit}
+use Rattle.map.specs.Laws.Crowd.{put-over}
+use Rattle.map.proofs.Passing.{counting, stored-but}
 
 -- The words behind the key of an entity's row.
 abbrev stood : ℕ → Cell → List ℕ
 stood e c = cellWords c
 
--- The same counts with another number of entities.
-abbrev pub counting : ℕ → Counts → Counts
-counting a n = record { entities = a; cells = n .cells; occupied = n .occupied; emptied = n .emptied }
-
 -- The tables of cells do not look at the number of entities.
 peopled-but : (cells crowd occ emp : List ℕ) (n : Counts) (a : ℕ) (o : Occupancy) → Peopled cells crowd occ emp n o → Peopled cells crowd occ emp (counting a n) o
 peopled-but cells crowd occ emp n a o h =
-    let x = h .stored in
-    record {
-      crowd-is = h .crowd-is;
-      crowd-fit = h .crowd-fit;
-      stored = record {
-        lists = x .lists;
-        opened = x .opened;
-        emptied = x .emptied;
-        cells-count = x .cells-count;
-        occupied-count = x .occupied-count;
-        emptied-count = x .emptied-count;
-        cells-fit = x .cells-fit;
-        occupied-fit = x .occupied-fit;
-        emptied-fit = x .emptied-fit;
-      };
-      placed = h .placed;
-    }
+    record { crowd-is = h .crowd-is; crowd-fit = h .crowd-fit; stored = stored-but cells occ emp n a (o .entities) o (h .stored); placed = h .placed }
 
 -- With words that show the entities, the tables of cells hold the map.
 hold : (ents cells crowd occ emp : List ℕ) (r : Counts) (a : ℕ) (o : Occupancy) → Shows number 5 a ents (each entityRow (o .entities)) → r .entities ≡ a → Peopled cells crowd occ emp r o

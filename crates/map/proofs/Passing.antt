@@ -16,16 +16,16 @@ use Rattle.model.specs.Laws.Sorted.{Asc}
 use Rattle.model.specs.Laws.Tables.{keys-length}
 use Rattle.model.specs.Laws.Occupied.{not-occupied, at-occupied, occupied-asc}
 use Rattle.layout.specs.Rows.{idRow, idsImage}
-use Rattle.layout.specs.RowLaws.{ids-wide}
+use Rattle.layout.specs.Laws.Rows.{ids-wide}
 use Rattle.table.specs.Rows.{cell, table4, stored4, hasRoom4}
-use Rattle.table.specs.Kinds.{cell-lawful}
-use Rattle.table.specs.Next.{room-there, put-next, drop-next}
+use Rattle.table.specs.Laws.Kinds.{cell-lawful}
+use Rattle.table.specs.Laws.Next.{room-there, put-next, drop-next}
 use Rattle.map.specs.declared.Counts.{Counts}
 use Rattle.map.specs.Told.{Shows}
 use Rattle.map.specs.Held.{standing, crowdOf, counted, Placed, Stored, Peopled, Opens, Closes, EntersCell, LeavesCell}
-use Rattle.map.specs.EachLaws.{keys-each, put-each, drop-each, image-shows, shows-image, shows-count, shows-fit}
-use Rattle.map.specs.CrowdLaws.{stands-counted, standing-few, crowd-keys, crowd-counted, crowd-enter, crowd-leave, crowd-close, last-leaves, other-stays}
-use Rattle.map.specs.PlacedLaws.{enter-placed, leave-placed}
+use Rattle.map.specs.Laws.Each.{keys-each, put-each, drop-each, image-shows, shows-image, shows-count, shows-fit}
+use Rattle.map.specs.Laws.Crowd.{stands-counted, standing-few, crowd-keys, crowd-counted, crowd-enter, crowd-leave, crowd-close, last-leaves, other-stays}
+use Rattle.map.specs.Laws.Placed.{enter-placed, leave-placed}
 
 -- The words behind the key of a crowd's row.
 abbrev number-of : Cell → ℕ → List ℕ
@@ -36,9 +36,13 @@ crowd-length : (o : Occupancy) → Placed o → length (each idRow (crowdOf o)) 
 crowd-length o ok =
     each-length idRow (crowdOf o) ∙ sym (keys-length (crowdOf o)) ∙ ap length (crowd-keys touch26 o (ok .sound)) ∙ keys-length (o .lists)
 
--- The lists do not look at the entities.
-stored-with : (cells occ emp : List ℕ) (n : Counts) (t : List (ℕ × Cell)) (o : Occupancy) → Stored cells occ emp n o → Stored cells occ emp n (withEntities t o)
-stored-with cells occ emp n t o x =
+-- The same counts with another number of entities.
+abbrev pub counting : ℕ → Counts → Counts
+counting a n = record { entities = a; cells = n .cells; occupied = n .occupied; emptied = n .emptied }
+
+-- The lists look neither at the entities nor at their number.
+pub stored-but : (cells occ emp : List ℕ) (n : Counts) (a : ℕ) (t : List (ℕ × Cell)) (o : Occupancy) → Stored cells occ emp n o → Stored cells occ emp (counting a n) (withEntities t o)
+stored-but cells occ emp n a t o x =
     record {
       lists = x .lists;
       opened = x .opened;
@@ -122,7 +126,7 @@ module _ (cells crowd occ emp : List ℕ) (n : Counts) (e : ℕ) (c : Cell) (o :
           is = z .1 ∙ (λ l. put below c (g l ∷ []) (t .is l)) ∙ put-each number-of below c (suc (standing (o .entities) c)) (crowdOf o)
               ∙ ap (each idRow) (sym (crowd-enter touch26 o (h .peopled .placed .sound) e c (h .free)));
         })
-        (stored-with cells′ occ′ emp′ r (put ltb e c (o .entities)) (cond (standsIn (o .entities) c) o (openCell touch26 c o))
+        (stored-but cells′ occ′ emp′ r (r .entities) (put ltb e c (o .entities)) (cond (standsIn (o .entities) c) o (openCell touch26 c o))
         (subst (λ (v : Bool). Stored cells′ occ′ emp′ r (cond v o (openCell touch26 c o))) (sym i) x))
 
   module _ (h : LeavesCell cells crowd occ emp n e c o) where
@@ -155,7 +159,7 @@ module _ (cells crowd occ emp : List ℕ) (n : Counts) (e : ℕ) (c : Cell) (o :
             is = z .1 ∙ ap (dropKey same c) (t .is) ∙ drop-each number-of same c (crowdOf o)
                 ∙ ap (each idRow) (sym (crowd-close touch26 o (h .peopled .placed .sound) e c (h .stands) m));
           })
-          (stored-with cells′ occ′ emp′ r (dropKey eqb e (o .entities)) (cond (standsIn (dropKey eqb e (o .entities)) c) o (closeCell touch26 c o))
+          (stored-but cells′ occ′ emp′ r (r .entities) (dropKey eqb e (o .entities)) (cond (standsIn (dropKey eqb e (o .entities)) c) o (closeCell touch26 c o))
           (subst (λ (v : Bool). Stored cells′ occ′ emp′ r (cond v o (closeCell touch26 c o))) (sym (last-leaves touch26 o (h .peopled .placed .sound) e c (h .stands) m)) x))
 
       -- The entity has left, and others stay.
@@ -174,5 +178,5 @@ module _ (cells crowd occ emp : List ℕ) (n : Counts) (e : ℕ) (c : Cell) (o :
             is = z .1 ∙ (λ i. put below c (g i ∷ []) (t .is i)) ∙ put-each number-of below c (suc (k - 2)) (crowdOf o)
                 ∙ ap (each idRow) (sym (crowd-leave touch26 o (h .peopled .placed .sound) e c (h .stands) (k - 2) m));
           })
-          (stored-with cells′ occ′ emp′ r (dropKey eqb e (o .entities)) (cond (standsIn (dropKey eqb e (o .entities)) c) o (closeCell touch26 c o))
+          (stored-but cells′ occ′ emp′ r (r .entities) (dropKey eqb e (o .entities)) (cond (standsIn (dropKey eqb e (o .entities)) c) o (closeCell touch26 c o))
           (subst (λ (b : Bool). Stored cells′ occ′ emp′ r (cond b o (closeCell touch26 c o))) (sym (other-stays touch26 o (h .peopled .placed .sound) e c (h .stands) v)) x))

@@ -18,7 +18,7 @@ use Rattle.map.specs.declared.Stand.{Stand}
 use Rattle.map.specs.declared.Stand.the-variants.{Inside, Nowhere}
 use Rattle.map.specs.Stands.{standOf, whereOf}
 use Rattle.map.specs.Held.{Held, Enters, Leaves, Moves, RoomToEnter, RoomToLeave, removalOf, moveOf}
-use Rattle.map.specs.EachLaws.{under, get-each}
+use Rattle.map.specs.Laws.Each.{under, get-each}
 use Rattle.map.proofs.Moving.{ents-shows}
 
 -- What a lookup of words finds is what a lookup of the entities finds.

@@ -11,21 +11,21 @@ use lib.Seq.{length-take-le, drop-drop, take-at, drop-at, getD-take}
 use Rattle.component.specs.Order.{same, below}
 use Rattle.component.specs.declared.Cell.{Cell}
 use Rattle.model.specs.Lists.{keep, has, keys, put, dropKey, change}
-use Rattle.model.specs.Laws.Tests.{true-of, false-of, T-true}
+use Rattle.model.specs.Laws.Tests.{T-true}
 use Rattle.model.specs.Laws.Orders.{cells}
-use Rattle.model.specs.Laws.Members.{has-of, hasnt-of, of-hasnt, keep-shorter}
-use Rattle.model.specs.Laws.Tables.{At, free-of, at-key, key-free, drop-free, asc-fair, free-key}
+use Rattle.model.specs.Laws.Members.{of-hasnt, keep-shorter}
+use Rattle.model.specs.Laws.Tables.{At, free-of, key-free, drop-free, asc-fair, free-key}
 use Rattle.table.specs.declared.Place.the-variants.{Found, Missing}
 use Rattle.table.specs.Moves.{over}
 use Rattle.table.specs.Rows.{cell, cellAt, table4, stored4, isTable4, placeOf}
-use Rattle.table.specs.Kinds.{cell-lawful}
-use Rattle.table.specs.Words.{row-at, key-at, row-fits}
-use Rattle.table.specs.Images.{table-facts}
-use Rattle.table.specs.Answers.{found-below, found-is, found-rest, missing-none}
-use Rattle.table.specs.Next.{put-next, drop-next}
+use Rattle.table.specs.Laws.Kinds.{cell-lawful}
+use Rattle.table.specs.Laws.Words.{row-at, key-at, row-fits}
+use Rattle.table.specs.Laws.Images.{table-facts}
+use Rattle.table.specs.Laws.Answers.{found-below, found-is, found-rest, missing-none}
+use Rattle.table.specs.Laws.Next.{put-next, drop-next}
 use Rattle.table.proofs.Ways.{put-stored}
 use Rattle.map.specs.Told.{Shows, appended, stripped, revised, revisedRow, toldOne}
-use Rattle.map.specs.TableLaws.{put-is-change, change-missing}
+use Rattle.map.specs.Laws.Tables.{put-is-change, change-missing}
 
 -- A row that is written over the row of its cell leaves the table with it.
 put-found : (w n : ℕ) (s r : List ℕ) (i : ℕ) → length r ≡ w → isTable4 w n s ≡ true → Found i ≡ placeOf below (keys (table4 w n s)) (cellAt r 0) → (u : List ℕ) → u ≡ over s (w * i) r
@@ -47,17 +47,9 @@ part-over g s y a m w q h l e =
     ap (λ (x : List ℕ). take a s ++ (y ++ x)) d ∙ ap (λ (x : List ℕ). take a s ++ (x ++ drop (a + length x) s)) f
 
 module _ (w n : ℕ) (s : List ℕ) (ok : isTable4 w n s ≡ true) (d : Cell) (i : ℕ) where
-  -- A cell that is found is among the keys.
-  pub found-has : Found i ≡ placeOf below (keys (table4 w n s)) d → true ≡ has same (keys (table4 w n s)) d
-  found-has e =
-      sym (true-of (has same (keys (table4 w n s)) d) (has-of cells (at-key cells (table4 w n s) (record { is = found-rest cell cell-lawful w n s d i ok e }))))
-
+  -- A cell that is missing is not among the keys.
   missing-out : Missing i ≡ placeOf below (keys (table4 w n s)) d → Mem d (keys (table4 w n s)) → ⊥
   missing-out e = key-free cells (table4 w n s) (free-of (table4 w n s) d (missing-none cell cell-lawful w n s d i ok e))
-
-  -- A cell that is missing is not.
-  pub missing-hasnt : Missing i ≡ placeOf below (keys (table4 w n s)) d → false ≡ has same (keys (table4 w n s)) d
-  missing-hasnt e = sym (false-of (has same (keys (table4 w n s)) d) (hasnt-of cells d (keys (table4 w n s)) (missing-out e)))
 
 -- The list of a row is as long as it was.
 appended-length : (w : ℕ) (ws : List ℕ) → length (appended w ws) ≡ length ws

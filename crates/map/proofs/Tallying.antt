@@ -10,13 +10,13 @@ use Rattle.model.specs.Cells.{Cell, same, below}
 use Rattle.model.specs.Laws.Members.{each-length}
 use Rattle.layout.specs.Rows.{idRow, entitiesIn, idsImage}
 use Rattle.table.specs.Rows.{cell, cellAt, rowsOf, table4, stored4, hasRoom4}
-use Rattle.table.specs.Kinds.{cell-lawful}
-use Rattle.table.specs.Next.{put-next}
+use Rattle.table.specs.Laws.Kinds.{cell-lawful}
+use Rattle.table.specs.Laws.Next.{put-next}
 use Rattle.map.specs.Told.{Shows}
 use Rattle.map.specs.Held.{standing, tally, counted}
-use Rattle.map.specs.EachLaws.{put-each, shows-image, shows-count}
-use Rattle.map.specs.CrowdLaws.{standing-few}
-use Rattle.map.specs.TallyLaws.{tally-more, tally-shorter, tally-counted, tally-room, tally-none, entities-none, entities-more, entities-lead, entities-length}
+use Rattle.map.specs.Laws.Each.{put-each, shows-image, shows-count}
+use Rattle.map.specs.Laws.Crowd.{standing-few}
+use Rattle.map.specs.Laws.Tally.{tally-more, tally-shorter, tally-counted, tally-room, tally-none, entities-none, entities-more, entities-lead, entities-length}
 
 -- No entity is counted yet.
 pub count-none : (s crowd : List ℕ) → crowd ≡ replicate (length crowd) 0 → Shows cell 5 0 crowd (each idRow (tally (entitiesIn 0 s)))

@@ -1,7 +1,18 @@
 // The map in lent memory: where each entity stands, the occupied cells with their lists, how many stand in each, and both net lists.
+mod lookup;
+
 use component::Cell;
 use layout::neighbour_of;
+pub use lookup::cube_into;
+pub use lookup::depth_cut;
+pub use lookup::flood_into;
+pub use lookup::flood_rows;
+pub use lookup::nearby_into;
+pub use lookup::write_cell;
 use table::Place;
+use table::find4_near;
+use table::index;
+use table::is_found;
 ghost use mathlib.Core.Path.{_≡_};
 ghost use mathlib.Core.Bool.{true, false, cond};
 ghost use mathlib.Core.List.{[], _∷_, _++_};
@@ -17,7 +28,7 @@ ghost use Rattle.table.specs.Moves.{over};
 ghost use Rattle.table.specs.Rows.{cell, cellWords, table1, stored1, isTable1, hasRoom1, table4, stored4, isTable4, hasRoom4};
 ghost use Rattle.map.specs.Held.{Stored, Opens, Closes, Held, Peopled, Enters, EntersCell, Leaves, LeavesCell, Moves, RoomToEnter, RoomToLeave, removalOf, moveOf, counted, tally};
 ghost use Rattle.map.specs.Stands.{standOf};
-ghost use Rattle.map.specs.Told.{Shows, Squeezed, padded, stripped, revisedRow, toldOne, told, noted};
+ghost use Rattle.map.specs.Told.{Shows, Squeezed, padded, revisedRow, toldOne, told, noted};
 
 // How many rows each table has; the crowd has as many as the cells.
 pub struct Counts {
@@ -94,17 +105,18 @@ fn revise(cells: &mut [u64], i: usize, w: u64, joins: bool)
     revise_row(&mut cells[a..e], w, joins);
 }
 
-// The list of neighbour k of c, where it is occupied, gains the number of c at its end, or loses it.
-fn tell_one(cells: &mut [u64], m: usize, c: Cell, k: u64, joins: bool)
+// The list of neighbour k of c, where it is occupied, gains the number of c at its end, or loses it; the answer is its place.
+fn tell_one(cells: &mut [u64], m: usize, c: Cell, k: u64, joins: bool, near: usize) -> usize
     requires { ⌜ (isTable4 30 m (now cells) ≡ true) × (k ≤ 27) ⌝ }
     ensures { λ _. ⌜ Shows cell 30 m (now (cells .exit)) (change (toldOne joins (neighbourOf c k) (27 - k)) (table4 30 m (now (cells .entry)))) ⌝ }
 {
-    let p = table::find4(cells, 30, m, neighbour_of(c, k));
+    let p = find4_near(cells, 30, m, neighbour_of(c, k), near);
     match p {
         Place::Found(i) => {
             revise(cells, i, 27 - k, joins);
+            i
         }
-        Place::Missing(_) => {}
+        Place::Missing(i) => i,
     }
 }
 
@@ -113,23 +125,20 @@ fn tell(cells: &mut [u64], m: usize, c: Cell, joins: bool)
     requires { ⌜ isTable4 30 m (now cells) ≡ true ⌝ }
     ensures { λ _. ⌜ Shows cell 30 m (now (cells .exit)) (change (told joins (neighbourOf c) 26) (table4 30 m (now (cells .entry)))) ⌝ }
 {
+    let mut near = 0;
     let mut k = 0;
     while k < 26 {
-        tell_one(cells, m, c, k + 1, joins);
+        near = tell_one(cells, m, c, k + 1, joins, near);
         k += 1;
     }
 }
 
 // Whether a cell is among the keys of m rows of width w.
-fn contains(s: &[u64], w: usize, m: usize, c: Cell) -> bool
+pub fn contains(s: &[u64], w: usize, m: usize, c: Cell) -> bool
     requires { ⌜ isTable4 w m (now s) ≡ true ⌝ }
     ensures { λ r. ⌜ r ≡ has same (keys (table4 w m (now (s .entry)))) c ⌝ }
 {
-    let p = table::find4(s, w, m, c);
-    match p {
-        Place::Found(_) => true,
-        Place::Missing(_) => false,
-    }
+    is_found(table::find4(s, w, m, c))
 }
 
 // The numbers of the occupied neighbours of c come into the list of a row.
@@ -137,9 +146,12 @@ fn note(cells: &[u64], m: usize, c: Cell, row: &mut [u64])
     requires { ⌜ (isTable4 30 m (now cells) ≡ true) × (4 ≤ length (now row)) × (drop 4 (now row) ≡ replicate 26 0) ⌝ }
     ensures { λ _. ⌜ now (row .exit) ≡ take 4 (now (row .entry)) ++ padded 26 (noted (keys (table4 30 m (now (cells .entry)))) (neighbourOf c) 26) ⌝ }
 {
+    let mut near = 0;
     let mut k = 0;
     while k < 26 {
-        if contains(cells, 30, m, neighbour_of(c, k + 1)) {
+        let p = find4_near(cells, 30, m, neighbour_of(c, k + 1), near);
+        near = index(p);
+        if is_found(p) {
             append(row, k + 1);
             k += 1;
         } else {

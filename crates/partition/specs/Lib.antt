@@ -1,7 +1,2 @@
 pub mod Held
-pub mod HeldLaws
-pub mod RecordLaws
-pub mod IdLaws
-pub mod FoundLaws
-pub mod JoinLaws
-pub mod LeaveLaws
+pub mod Laws

@@ -5,14 +5,16 @@ use table::Place;
 use table::cell_at;
 use table::find1;
 use table::find4;
+use table::find4_near;
+use table::index;
 use table::put1;
 use table::put4;
 use table::remove4;
 use table::write_row;
 use table::write_zeros;
 ghost use mathlib.Core.Path.{_≡_};
-ghost use Prim.Native.Nat.{ℕ, suc, _+_, _*_, _<_, _≤_, min, max};
-ghost use mathlib.Core.List.{List, [], _∷_, List·Memᴰ};
+ghost use Prim.Native.Nat.{ℕ, _+_, _*_, _<_, _≤_, min, max};
+ghost use mathlib.Core.List.{List, [], _∷_};
 ghost use lib.ListN.{length, getD, take, drop, replicate};
 ghost use Rattle.table.specs.Moves.{over};
 ghost use lib.Dec.{T, ltb, eqb};
@@ -90,10 +92,12 @@ pub fn found_at(ids: &[u64], n: usize, c: Cell, found: &mut [u64]) -> usize
     requires { ⌜ ((t : Ids) × HeldRows (now ids) n t × T (cellInRange c) × (26 ≤ length (now found))) ⌝ }
     ensures { λ r. ⌜ (r ≤ 26) × ((t : Ids) → HeldRows (now (ids .entry)) n t → take r (now (found .exit)) ≡ foundAt touch26 t c) ⌝ }
 {
+    let mut near = 0;
     let mut m = 0;
     let mut k: u64 = 0;
     while k < 26 {
-        let p = find4(ids, 5, n, neighbour_of(c, k + 1));
+        let p = find4_near(ids, 5, n, neighbour_of(c, k + 1), near);
+        near = index(p);
         match p {
             Place::Found(i) => {
                 found[m] = ids[5 * i + 4];

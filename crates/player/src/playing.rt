@@ -9,18 +9,14 @@ use crate::writing::Line;
 use crate::writing::flush;
 use crate::writing::put;
 use fresh::fresh;
+use layout::EMPTIED;
+use layout::IDS;
+use layout::OCCUPIED;
 use table::write_row;
 use yard::update;
 ghost use Prim.Native.Nat.{_+_, _*_, _≤_};
 ghost use lib.ListN.{length};
 ghost use Rattle.player.specs.Places.{Counts, Plays};
-
-// Where the tables that are told begin in a state.
-const OCCUPIED: usize = 51208;
-
-const EMPTIED: usize = 55304;
-
-const IDS: usize = 59400;
 
 // Where reading and writing stand between two batches, the number of the next batch, and whether there may be one.
 pub struct Progress {

@@ -1,3 +1,3 @@
+pub mod Marks
 pub mod Scans
-pub mod Readings
-pub mod Found
+pub mod Laws

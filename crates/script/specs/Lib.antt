@@ -1,6 +1,3 @@
-pub mod DecimalLaws
-pub mod Examples
 pub mod Lines
 pub mod Records
-pub mod Written
-pub mod WrittenLaws
+pub mod Laws

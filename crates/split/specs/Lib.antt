@@ -1,10 +1,3 @@
 pub mod Walk
-pub mod SelLaws
-pub mod Absorbing
-pub mod Wave
-pub mod Stage
-pub mod Ordering
-pub mod Ranking
-pub mod Splitting
 pub mod Numbers
-pub mod AffectedLaws
+pub mod Laws

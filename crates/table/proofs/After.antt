@@ -9,8 +9,8 @@ use Rattle.model.specs.Lists.{gather}
 use Rattle.model.specs.Laws.Members.{gather-append}
 use Rattle.table.specs.Moves.{over, inserted, closed}
 use Rattle.table.specs.Rows.{Kind, rowOf, tableOf, imageOf, storedOf}
-use Rattle.table.specs.Kinds.{Lawful}
-use Rattle.table.specs.Words.{words-front, words-back}
+use Rattle.table.specs.Laws.Kinds.{Lawful}
+use Rattle.table.specs.Laws.Words.{words-front, words-back}
 
 regroup : (a b c z : List ℕ) → a ++ (b ++ (c ++ z)) ≡ (a ++ (b ++ c)) ++ z
 regroup a b c z = sym (simp append-assoc)

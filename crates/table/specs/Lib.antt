@@ -1,9 +1,3 @@
 pub mod Rows
 pub mod Moves
-pub mod Kinds
-pub mod Words
-pub mod Places
-pub mod Images
-pub mod Answers
-pub mod Next
-pub mod Examples
+pub mod Laws

@@ -1,6 +1,6 @@
 -- Tables in a list of words: rows of one width, one after the other, and how a row is read as a key with what it stands for.
 use Prim.Native.Nat.{ℕ, zero, suc, _+_, _-_, _*_}
-use mathlib.Core.Bool.{Bool, cond, _&&_, _||_}
+use mathlib.Core.Bool.{Bool, true, false, cond, _&&_, _||_}
 use mathlib.Core.List.{List, [], _∷_, _++_}
 use lib.ListN.{length, take, drop, getD, replicate}
 use lib.Dec.{eqb, ltb, leb}
@@ -82,6 +82,21 @@ module _ {K : Type 0} (kind : Kind K) where
 abbrev pub further : Place → Place
 further (Found i) = Found (suc i)
 further (Missing i) = Missing (suc i)
+
+-- Whether a place is that of a row.
+abbrev pub isFound : Place → Bool
+isFound (Found i) = true
+isFound (Missing i) = false
+
+-- The number of a place.
+abbrev pub placed : Place → ℕ
+placed (Found i) = i
+placed (Missing i) = i
+
+-- How many keys stand before the first that is not below a key.
+abbrev pub rank : {K : Type 0} → (K → K → Bool) → K → List K → ℕ
+rank lt key [] = zero
+rank lt key (x ∷ l) = cond (lt x key) (suc (rank lt key l)) zero
 
 -- Where a key stands in an ascending list of keys, or where it would go in.
 abbrev pub placeOf : {K : Type 0} → (K → K → Bool) → List K → K → Place

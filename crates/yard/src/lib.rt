@@ -23,6 +23,12 @@ use batch::move_cell;
 use batch::too_short;
 pub use consistent::consistent;
 pub use fresh::fresh;
+use layout::CELLS;
+use layout::EMPTIED;
+use layout::ENTITIES;
+use layout::GROUPS;
+use layout::IDS;
+use layout::OCCUPIED;
 use map::Counts;
 use map::crowd_of;
 use map::play_move;
@@ -48,19 +54,6 @@ ghost use Rattle.yard.specs.Known.{Known};
 ghost use Rattle.yard.specs.Playing.{judged, Ready, Outcome, inRange, toMove};
 ghost use Rattle.yard.specs.Steps.{Blank, Opened, Regroups, Regrouped, Finishes, frontWords, Begun};
 ghost use Rattle.yard.specs.Update.{done, updateOf};
-
-// Where each table begins in a state.
-const ENTITIES: usize = 8;
-
-const CELLS: usize = 20488;
-
-const OCCUPIED: usize = 51208;
-
-const EMPTIED: usize = 55304;
-
-const IDS: usize = 59400;
-
-const GROUPS: usize = 64520;
 
 // The counts after some events, and the number of the first that breaks a limit, 0 where none does.
 pub struct Played {

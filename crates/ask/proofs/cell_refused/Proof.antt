@@ -2,7 +2,7 @@
 use mathlib.Core.Bool.{cond}
 use mathlib.Core.Path.{_∙_, sym, ap}
 use borrow.Author.Needs.{needs}
-use Rattle.ask.specs.Ways.{state-way, range-way}
+use Rattle.ask.specs.Laws.Ways.{state-way, range-way}
 use Rattle.ask.proofs.cell_refused.Statement.{statement}
 use Rattle.ask.proofs.cell_refused.Tie as tie
 

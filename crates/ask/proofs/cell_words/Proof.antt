@@ -3,7 +3,7 @@ use native.Mathlib.Omega.{arith}
 use mathlib.Core.Path.{refl}
 use borrow.Author.Needs.{needs}
 use Rattle.layout.specs.State.{cellsFrom, occupiedFrom, stateLen}
-use Rattle.ask.specs.Words.{whole, part-of}
+use Rattle.ask.specs.Laws.Words.{whole, part-of}
 use Rattle.ask.proofs.cell_words.Statement.{statement}
 use Rattle.ask.proofs.cell_words.Tie as tie
 

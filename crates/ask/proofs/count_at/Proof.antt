@@ -2,7 +2,7 @@
 use native.Mathlib.Omega.{arith}
 use mathlib.Core.Path.{refl}
 use borrow.Author.Needs.{needs}
-use Rattle.ask.specs.Words.{header-fits}
+use Rattle.ask.specs.Laws.Words.{header-fits}
 use Rattle.ask.proofs.count_at.Statement.{statement}
 use Rattle.ask.proofs.count_at.Tie as tie
 

@@ -5,9 +5,9 @@ use mathlib.Core.Path.{_≡_, _∙_, sym, ap}
 use borrow.Author.Needs.{needs}
 use Rattle.component.specs.Stored.{stored}
 use Rattle.component.specs.Range.{cellInRange}
-use Rattle.ask.specs.Listings.{cube-refused, cube-answered}
-use Rattle.ask.specs.Words.{cells-here, cells-few}
-use Rattle.ask.specs.Ways.{Sure, range-of}
+use Rattle.ask.specs.Laws.Listings.{cube-refused, cube-answered}
+use Rattle.ask.specs.Laws.Words.{cells-here, cells-few}
+use Rattle.ask.specs.Laws.Ways.{Sure, range-of}
 use Rattle.ask.proofs.cube.Statement.{statement}
 use Rattle.ask.proofs.cube.Tie as tie
 

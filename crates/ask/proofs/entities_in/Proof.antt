@@ -3,9 +3,9 @@ use native.Mathlib.Omega.{arith}
 use mathlib.Core.Path.{_∙_, sym, ap}
 use lib.ListN.{length}
 use borrow.Author.Needs.{needs}
-use Rattle.ask.specs.Listings.{entities-refused, entities-answered}
-use Rattle.ask.specs.Words.{entities-few}
-use Rattle.ask.specs.Ways.{Sure, range-of}
+use Rattle.ask.specs.Laws.Listings.{entities-refused, entities-answered}
+use Rattle.ask.specs.Laws.Words.{entities-few}
+use Rattle.ask.specs.Laws.Ways.{Sure, range-of}
 use Rattle.ask.proofs.entities_in.Statement.{statement}
 use Rattle.ask.proofs.entities_in.Tie as tie
 

@@ -6,7 +6,7 @@ use lib.ListN.{length, take, getD, length-set}
 use borrow.Author.Needs.{needs}
 use Rattle.model.specs.Cells.{same}
 use Rattle.layout.specs.Rows.{entitiesIn}
-use Rattle.ask.specs.Scans.{entity-step, entity-past, entity-end}
+use Rattle.ask.specs.Laws.Scans.{entity-step, entity-past, entity-end}
 use Rattle.ask.specs.Parts.{standingIn}
 use Rattle.ask.proofs.entities_into.Statement.{statement}
 use Rattle.ask.proofs.entities_into.Tie as tie

@@ -9,10 +9,10 @@ use Rattle.component.specs.Stored.{cellId}
 use Rattle.model.specs.Lists.{keys}
 use Rattle.table.specs.Rows.{placeOf, table1, number}
 use Rattle.table.specs.declared.Place.the-variants.{Found}
-use Rattle.table.specs.Answers.{found-below}
-use Rattle.table.specs.Images.{table-facts}
-use Rattle.table.specs.Kinds.{number-lawful}
-use Rattle.ask.specs.Finds.{entity-found, entity-missing}
+use Rattle.table.specs.Laws.Answers.{found-below}
+use Rattle.table.specs.Laws.Images.{table-facts}
+use Rattle.table.specs.Laws.Kinds.{number-lawful}
+use Rattle.ask.specs.Laws.Finds.{entity-found, entity-missing}
 use Rattle.ask.specs.Answers.{whereFrom}
 use Rattle.ask.specs.declared.Where.{Where}
 use Rattle.ask.proofs.find_entity.Statement.{statement}

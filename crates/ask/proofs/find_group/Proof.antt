@@ -1,17 +1,13 @@
 -- The group stands in the row that is found.
 use Prim.Native.Nat.{_+_, _*_, _≤_}
-use native.Mathlib.Omega.{arith}
 use mathlib.Core.Path.{_≡_, _∙_, sym, ap}
 use lib.Dec.{ltb}
 use lib.ListN.{length}
 use borrow.Author.Needs.{needs}
 use Rattle.model.specs.Lists.{keys}
-use Rattle.table.specs.Kinds.{number-lawful}
-use Rattle.table.specs.Rows.{number, placeOf, table1}
+use Rattle.table.specs.Rows.{placeOf, table1}
 use Rattle.table.specs.declared.Place.the-variants.{Found}
-use Rattle.table.specs.Answers.{found-below}
-use Rattle.table.specs.Images.{table-facts}
-use Rattle.ask.specs.Finds.{group-found, group-missing}
+use Rattle.ask.specs.Laws.Finds.{group-inside, group-found, group-missing}
 use Rattle.ask.specs.Answers.{groupFrom}
 use Rattle.ask.proofs.find_group.Statement.{statement}
 use Rattle.ask.proofs.find_group.Tie as tie
@@ -24,9 +20,7 @@ at k = sym (k .before .p .given .1) ∙ k .before .before .before .find1 .ensure
 -- That row is within the words.
 inside : (k : tie.After-known-told) → let s = k .before .before .before .before .before in
     9 * k .before .p .given .0 .0 + 9 ≤ length (s .args .rows .now)
-inside k =
-    let s = k .before .before .before .before .before in
-    omega (arith, found-below number number-lawful 9 (s .args .n) (s .args .rows .now) (s .args .id) (k .before .p .given .0 .0) (at k), table-facts number 9 (s .args .n) (s .args .rows .now) (s .pre) .fits)
+inside k = let s = k .before .before .before .before .before in group-inside (s .args .n) (s .args .rows .now) (s .args .id) (k .before .p .given .0 .0) (s .pre) (at k)
 
 find1-requires : tie.Need-find1-requires
 find1-requires c κs = search needs

@@ -6,12 +6,12 @@ use lib.ListN.{length}
 use borrow.Author.Needs.{needs}
 use Rattle.model.specs.Cells.{below}
 use Rattle.model.specs.Lists.{keys}
-use Rattle.table.specs.Kinds.{cell-lawful}
+use Rattle.table.specs.Laws.Kinds.{cell-lawful}
 use Rattle.table.specs.Rows.{cell, placeOf, table4}
 use Rattle.table.specs.declared.Place.the-variants.{Found}
-use Rattle.table.specs.Answers.{found-below}
-use Rattle.table.specs.Images.{table-facts}
-use Rattle.ask.specs.Finds.{id-found, id-missing}
+use Rattle.table.specs.Laws.Answers.{found-below}
+use Rattle.table.specs.Laws.Images.{table-facts}
+use Rattle.ask.specs.Laws.Finds.{id-found, id-missing}
 use Rattle.ask.specs.Answers.{idFrom}
 use Rattle.ask.proofs.find_id.Statement.{statement}
 use Rattle.ask.proofs.find_id.Tie as tie

@@ -2,9 +2,9 @@
 use native.Mathlib.Omega.{arith}
 use mathlib.Core.Path.{_∙_, sym}
 use borrow.Author.Needs.{needs}
-use Rattle.ask.specs.Listings.{flood-refused, flood-answered}
-use Rattle.ask.specs.Words.{cells-here, cells-few}
-use Rattle.ask.specs.Ways.{Sure, range-of}
+use Rattle.ask.specs.Laws.Listings.{flood-refused, flood-answered}
+use Rattle.ask.specs.Laws.Words.{cells-here, cells-few}
+use Rattle.ask.specs.Laws.Ways.{Sure, range-of}
 use Rattle.ask.proofs.flood.Statement.{statement}
 use Rattle.ask.proofs.flood.Tie as tie
 

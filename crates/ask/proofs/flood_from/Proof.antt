@@ -1,7 +1,7 @@
 -- No row is marked at first.
 use borrow.Author.Needs.{needs}
 use Rattle.layout.specs.Rows.{cellsIn}
-use Rattle.ask.specs.Floods.{floodable}
+use Rattle.ask.specs.Laws.Floods.{floodable}
 use Rattle.ask.proofs.flood_from.Statement.{statement}
 use Rattle.ask.proofs.flood_from.Tie as tie
 

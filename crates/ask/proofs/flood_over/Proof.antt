@@ -3,9 +3,9 @@ use Prim.Native.Nat.{_≤_}
 use native.Mathlib.Omega.{arith}
 use borrow.Author.Needs.{needs}
 use Rattle.layout.specs.Rows.{cellsIn}
-use Rattle.flood.specs.Answers.{Queued}
-use Rattle.flood.specs.Standing.{Flooded}
-use Rattle.ask.specs.Floods.{queued, number-few, flooded-long, flooded-fits}
+use Rattle.map.specs.Answers.{Queued}
+use Rattle.map.specs.Standing.{Flooded}
+use Rattle.ask.specs.Laws.Floods.{queued, number-few, flooded-long, flooded-fits}
 use Rattle.ask.specs.Answers.{depthOf}
 use Rattle.ask.proofs.flood_over.Statement.{statement}
 use Rattle.ask.proofs.flood_over.Tie as tie

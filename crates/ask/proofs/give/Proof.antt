@@ -4,7 +4,7 @@ use mathlib.Core.Bool.{true, false}
 use mathlib.Core.Path.{sym}
 use lib.Seq.{length-take-le}
 use borrow.Author.Needs.{needs}
-use Rattle.ask.specs.Gives.{give-long, give-fits}
+use Rattle.ask.specs.Laws.Gives.{give-long, give-fits}
 use Rattle.ask.proofs.give.Statement.{statement}
 use Rattle.ask.proofs.give.Tie as tie
 

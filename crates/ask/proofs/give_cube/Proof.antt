@@ -6,19 +6,20 @@ use mathlib.Core.Bool.{true, false}
 use mathlib.Core.Path.{_≡_, refl, sym, ap, _∙_}
 use lib.ListN.{length, replicate, length-replicate}
 use borrow.Author.Needs.{needs}
-use Rattle.component.specs.AdjacentLaws.{range-above}
+use Rattle.component.specs.Laws.Adjacent.{range-above}
 use Rattle.component.specs.Around.{Above}
 use Rattle.model.specs.Questions.{cube}
 use Rattle.model.specs.Cells.{Cell}
 use Rattle.model.specs.Lists.{keys, keep, gather}
 use Rattle.table.specs.Rows.{table4}
 use Rattle.layout.specs.Rows.{cellsIn}
-use Rattle.flood.specs.Reads.{cells-table, cells-keys}
-use Rattle.flood.specs.Answers.{answerWords}
-use Rattle.ask.specs.Cubes.{cube-words, first-words}
-use Rattle.ask.specs.Occupied.{found-has, missing-has}
-use Rattle.ask.specs.Gives.{cells-listed}
-use Rattle.ask.specs.Parts.{having, beside}
+use Rattle.map.specs.Laws.Reads.{cells-table, cells-keys}
+use Rattle.map.specs.Answers.{answerWords}
+use Rattle.ask.specs.Laws.Cubes.{cube-words, first-words}
+use Rattle.ask.specs.Laws.Occupied.{found-has, missing-has}
+use Rattle.ask.specs.Laws.Gives.{cells-listed}
+use Rattle.map.specs.Beside.{beside}
+use Rattle.ask.specs.Parts.{having}
 use Rattle.ask.proofs.give_cube.Statement.{statement}
 use Rattle.ask.proofs.give_cube.Tie as tie
 
@@ -27,15 +28,15 @@ above : (s : tie.Start) → Above (s .args .radius) (s .args .c)
 above s = range-above (s .args .radius) (s .args .c) (omega (arith, s .fits .radius)) (s .pre .1)
 
 -- The words keep their length.
-kept : (b : tie.After-beside-into) → length (b .beside-into .last .1 .1 .1 .1 .0) ≡ 4100
-kept b = b .beside-into .kept .1 .1 .1 .1 .0 ∙ b .before .before .before .write-cell .kept .0
+kept : (b : tie.After-cube-into) → length (b .cube-into .last .1 .1 .1 .1 .0) ≡ 4100
+kept b = b .cube-into .kept .1 .1 .1 .1 .0 ∙ b .before .before .before .write-cell .kept .0
 
 -- They have space for the cells.
-long : (b : tie.After-beside-into) → 4 * b .beside-into .result ≤ length (b .beside-into .last .1 .1 .1 .1 .0)
-long b = let s = b .before .before .before .before .before .before .before .before .before .before in omega (arith, kept b, b .beside-into .ensures .0, s .pre .2)
+long : (b : tie.After-cube-into) → 4 * b .cube-into .result ≤ length (b .cube-into .last .1 .1 .1 .1 .0)
+long b = let s = b .before .before .before .before .before .before .before .before .before .before in omega (arith, kept b, b .cube-into .ensures .0, s .pre .2)
 
-long2 : (b : tie.After-beside-into2) → 4 * b .beside-into2 .result ≤ length (b .beside-into2 .last .1 .1 .1 .1 .0)
-long2 b = let s = b .before .before .before .before .before .before .before in omega (arith, b .beside-into2 .kept .1 .1 .1 .1 .0, b .beside-into2 .ensures .0, s .pre .2)
+long2 : (b : tie.After-cube-into2) → 4 * b .cube-into2 .result ≤ length (b .cube-into2 .last .1 .1 .1 .1 .0)
+long2 b = let s = b .before .before .before .before .before .before .before in omega (arith, b .cube-into2 .kept .1 .1 .1 .1 .0, b .cube-into2 .ensures .0, s .pre .2)
 
 find4-requires : tie.Need-find4-requires
 find4-requires c κs = let s = c .before .before in cells-table (s .args .cells .now) (s .args .n) (cellsIn (s .args .n) (s .args .cells .now)) (s .pre .0)
@@ -49,11 +50,11 @@ slice-aggregate-write-cell c = search needs
 write-cell-requires : tie.Need-write-cell-requires
 write-cell-requires c κs = omega (arith, length-replicate {A = ℕ} 4100 0)
 
-slice-aggregate-beside-into : tie.Need-slice-aggregate-beside-into
-slice-aggregate-beside-into c = search needs
+slice-aggregate-cube-into : tie.Need-slice-aggregate-cube-into
+slice-aggregate-cube-into c = search needs
 
-beside-into-requires : tie.Need-beside-into-requires
-beside-into-requires c κs = let s = c .before .before .before .before .before .before .before .before .before in (s .pre .0 .fits, omega (arith, s .pre .2, c .before .before .write-cell .kept .0))
+cube-into-requires : tie.Need-cube-into-requires
+cube-into-requires c κs = let s = c .before .before .before .before .before .before .before .before .before in (s .pre .0 .fits, omega (arith, s .pre .2, c .before .before .write-cell .kept .0))
 
 slice-aggregate-give : tie.Need-slice-aggregate-give
 slice-aggregate-give c = sym (kept (c .before .before))
@@ -67,17 +68,17 @@ give-requires c κs = long (c .before .before .before)
 enum-told-2 : tie.Need-enum-told-2
 enum-told-2 c = search needs
 
-slice-aggregate-beside-into-2 : tie.Need-slice-aggregate-beside-into-2
-slice-aggregate-beside-into-2 c = search needs
+slice-aggregate-cube-into-2 : tie.Need-slice-aggregate-cube-into-2
+slice-aggregate-cube-into-2 c = search needs
 
-beside-into-requires-2 : tie.Need-beside-into-requires-2
-beside-into-requires-2 c κs = let s = c .before .before .before .before .before .before in (s .pre .0 .fits, omega (arith, s .pre .2, length-replicate {A = ℕ} 4100 0))
+cube-into-requires-2 : tie.Need-cube-into-requires-2
+cube-into-requires-2 c κs = let s = c .before .before .before .before .before .before in (s .pre .0 .fits, omega (arith, s .pre .2, length-replicate {A = ℕ} 4100 0))
 
 slice-aggregate-give-2 : tie.Need-slice-aggregate-give-2
-slice-aggregate-give-2 c = sym (c .before .before .beside-into2 .kept .1 .1 .1 .1 .0)
+slice-aggregate-give-2 c = sym (c .before .before .cube-into2 .kept .1 .1 .1 .1 .0)
 
 mul-give-2 : tie.Need-mul-give-2
-mul-give-2 c = let f = long2 (c .before .before) in let g = c .before .before .beside-into2 .kept .1 .1 .1 .1 .0 in search needs
+mul-give-2 c = let f = long2 (c .before .before) in let g = c .before .before .cube-into2 .kept .1 .1 .1 .1 .0 in search needs
 
 give-requires-2 : tie.Need-give-requires-2
 give-requires-2 c κs = long2 (c .before .before .before)
@@ -94,8 +95,8 @@ returns c =
     let t = cellsIn (s .args .n) (s .args .cells .now) in
     let h = found-has (s .args .cells .now) (s .args .n) t (s .pre .0) (s .args .c) (m .enum-told .given .0 .0) (sym (m .enum-told .given .1) ∙ m .before .before .find4 .ensures) in
     c .before .before .give .ensures
-    ∙ cells-listed true (b .beside-into .result) (4 * b .beside-into .result) (b .beside-into .last .1 .1 .1 .1 .0) (cube (having t) (s .args .c) (s .args .radius)) (s .args .answer .now) (sym h)
-    (b .beside-into .ensures .1
+    ∙ cells-listed true (b .cube-into .result) (4 * b .cube-into .result) (b .cube-into .last .1 .1 .1 .1 .0) (cube (having t) (s .args .c) (s .args .radius)) (s .args .answer .now) (sym h)
+    (b .cube-into .ensures .1
     ∙ ap (λ (l : List ℕ). l ++ gather answerWords (keep (beside (s .args .radius) (s .args .c)) (keys (table4 30 (s .args .n) (s .args .cells .now))))) (first-words (replicate 4100 0) (w .write-cell .last .0) (s .args .c) (w .write-cell .ensures))
     ∙ ap (λ (l : List Cell). answerWords (s .args .c) ++ gather answerWords (keep (beside (s .args .radius) (s .args .c)) l)) (cells-keys (s .args .cells .now) (s .args .n) t (s .pre .0))
     ∙ cube-words (s .args .radius) (s .args .c) (above s) t (s .pre .0 .asc) true h)
@@ -112,8 +113,8 @@ returns-2 c =
     let t = cellsIn (s .args .n) (s .args .cells .now) in
     let h = missing-has (s .args .cells .now) (s .args .n) t (s .pre .0) (s .args .c) (m .enum-told2 .given .0 .0) (sym (m .enum-told2 .given .1) ∙ m .before .before .find4 .ensures) in
     c .before .before .give2 .ensures
-    ∙ cells-listed false (b .beside-into2 .result) (4 * b .beside-into2 .result) (b .beside-into2 .last .1 .1 .1 .1 .0) (cube (having t) (s .args .c) (s .args .radius)) (s .args .answer .now) (sym h)
-    (b .beside-into2 .ensures .1
+    ∙ cells-listed false (b .cube-into2 .result) (4 * b .cube-into2 .result) (b .cube-into2 .last .1 .1 .1 .1 .0) (cube (having t) (s .args .c) (s .args .radius)) (s .args .answer .now) (sym h)
+    (b .cube-into2 .ensures .1
     ∙ ap (λ (l : List Cell). gather answerWords (keep (beside (s .args .radius) (s .args .c)) l)) (cells-keys (s .args .cells .now) (s .args .n) t (s .pre .0))
     ∙ cube-words (s .args .radius) (s .args .c) (above s) t (s .pre .0 .asc) false h)
     (long2 b) refl
@@ -126,14 +127,14 @@ give-cube-spec =
     enum-told
     slice-aggregate-write-cell
     write-cell-requires
-    slice-aggregate-beside-into
-    beside-into-requires
+    slice-aggregate-cube-into
+    cube-into-requires
     slice-aggregate-give
     mul-give
     give-requires
     enum-told-2
-    slice-aggregate-beside-into-2
-    beside-into-requires-2
+    slice-aggregate-cube-into-2
+    cube-into-requires-2
     slice-aggregate-give-2
     mul-give-2
     give-requires-2

@@ -8,7 +8,7 @@ use lib.ListN.{length}
 use lib.Dec.{eqb}
 use borrow.Author.Needs.{needs}
 use Rattle.layout.specs.Rows.{entitiesIn}
-use Rattle.ask.specs.Gives.{numbers-listed}
+use Rattle.ask.specs.Laws.Gives.{numbers-listed}
 use Rattle.ask.specs.Parts.{standingIn, anyOf}
 use Rattle.ask.proofs.give_entities.Statement.{statement}
 use Rattle.ask.proofs.give_entities.Tie as tie

@@ -7,9 +7,9 @@ use Rattle.model.specs.Lists.{keys}
 use Rattle.table.specs.Rows.{placeOf, table4}
 use Rattle.table.specs.declared.Place.the-variants.{Found}
 use Rattle.layout.specs.Rows.{cellsIn}
-use Rattle.flood.specs.Reads.{cells-table}
-use Rattle.ask.specs.Floods.{flooded-none}
-use Rattle.ask.specs.Occupied.{found-has, found-there, found-cell, missing-has}
+use Rattle.map.specs.Laws.Reads.{cells-table}
+use Rattle.ask.specs.Laws.Floods.{flooded-none}
+use Rattle.ask.specs.Laws.Occupied.{found-has, found-there, found-cell, missing-has}
 use Rattle.ask.specs.Parts.{having}
 use Rattle.ask.specs.Answers.{flooded, depthOf}
 use Rattle.ask.proofs.give_flood.Statement.{statement}

@@ -7,7 +7,7 @@ use lib.ListN.{length}
 use borrow.Author.Needs.{needs}
 use Rattle.model.specs.Lists.{keys}
 use Rattle.layout.specs.Rows.{groupsIn}
-use Rattle.ask.specs.Gives.{numbers-listed, group-keys}
+use Rattle.ask.specs.Laws.Gives.{numbers-listed, group-keys}
 use Rattle.ask.specs.Answers.{there}
 use Rattle.ask.proofs.give_ids.Statement.{statement}
 use Rattle.ask.proofs.give_ids.Tie as tie

@@ -11,10 +11,10 @@ use Rattle.model.specs.Lists.{keys}
 use Rattle.table.specs.Rows.{placeOf, table4}
 use Rattle.table.specs.declared.Place.the-variants.{Found}
 use Rattle.layout.specs.Rows.{cellsIn}
-use Rattle.flood.specs.Reads.{cells-table}
-use Rattle.flood.specs.Answers.{Nearby}
-use Rattle.ask.specs.Occupied.{found-has, missing-has, nearby-asked, nearby-few, nearby-words, missing-words}
-use Rattle.ask.specs.Gives.{cells-listed}
+use Rattle.map.specs.Laws.Reads.{cells-table}
+use Rattle.map.specs.Answers.{Nearby}
+use Rattle.ask.specs.Laws.Occupied.{found-has, missing-has, nearby-asked, nearby-few, nearby-words, missing-words}
+use Rattle.ask.specs.Laws.Gives.{cells-listed}
 use Rattle.ask.specs.Parts.{having}
 use Rattle.ask.proofs.give_nearby.Statement.{statement}
 use Rattle.ask.proofs.give_nearby.Tie as tie

@@ -6,7 +6,7 @@ use mathlib.Core.Path.{refl, sym, _∙_}
 use lib.ListN.{length}
 use borrow.Author.Needs.{needs}
 use Rattle.layout.specs.Rows.{netIn}
-use Rattle.ask.specs.Gives.{cells-listed}
+use Rattle.ask.specs.Laws.Gives.{cells-listed}
 use Rattle.ask.specs.Answers.{there}
 use Rattle.ask.proofs.give_net.Statement.{statement}
 use Rattle.ask.proofs.give_net.Tie as tie

@@ -2,9 +2,9 @@
 use mathlib.Core.Path.{_∙_, sym}
 use borrow.Author.Needs.{needs}
 use Rattle.table.specs.Rows.{isTable4}
-use Rattle.ask.specs.Lookups.{id-refused, id-answered}
-use Rattle.ask.specs.Words.{ids-table}
-use Rattle.ask.specs.Ways.{Sure, range-of}
+use Rattle.ask.specs.Laws.Lookups.{id-refused, id-answered}
+use Rattle.ask.specs.Laws.Words.{ids-table}
+use Rattle.ask.specs.Laws.Ways.{Sure, range-of}
 use Rattle.ask.proofs.id_of.Statement.{statement}
 use Rattle.ask.proofs.id_of.Tie as tie
 

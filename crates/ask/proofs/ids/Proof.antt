@@ -3,9 +3,9 @@ use native.Mathlib.Omega.{arith}
 use mathlib.Core.Path.{ap}
 use lib.ListN.{length}
 use borrow.Author.Needs.{needs}
-use Rattle.ask.specs.Listings.{ids-refused, ids-answered}
-use Rattle.ask.specs.Words.{groups-few}
-use Rattle.ask.specs.Ways.{Sure, sure-by}
+use Rattle.ask.specs.Laws.Listings.{ids-refused, ids-answered}
+use Rattle.ask.specs.Laws.Words.{groups-few}
+use Rattle.ask.specs.Laws.Ways.{Sure, sure-by}
 use Rattle.ask.proofs.ids.Statement.{statement}
 use Rattle.ask.proofs.ids.Tie as tie
 

@@ -6,7 +6,7 @@ use lib.ListN.{length, take, getD, length-set}
 use borrow.Author.Needs.{needs}
 use Rattle.model.specs.Lists.{keys}
 use Rattle.table.specs.Rows.{table1}
-use Rattle.ask.specs.Scans.{key-step, key-end}
+use Rattle.ask.specs.Laws.Scans.{key-step, key-end}
 use Rattle.ask.proofs.keys_into.Statement.{statement}
 use Rattle.ask.proofs.keys_into.Tie as tie
 

@@ -8,9 +8,9 @@ use lib.ListN.{length}
 use borrow.Author.Needs.{needs}
 use Rattle.component.specs.Stored.{biased}
 use Rattle.model.specs.Flood.{cutAt}
-use Rattle.flood.specs.Filling.{rows-long}
-use Rattle.flood.specs.Answers.{cellsOfRows}
-use Rattle.flood.specs.Rows.{rowCell}
+use Rattle.map.specs.Laws.Filling.{rows-long}
+use Rattle.map.specs.Answers.{cellsOfRows}
+use Rattle.map.specs.Rows.{rowCell}
 use Rattle.ask.specs.Answers.{depthOf}
 use Rattle.ask.specs.declared.Depth.{Depth}
 use Rattle.ask.proofs.left_by.Statement.{statement}

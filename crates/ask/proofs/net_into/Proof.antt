@@ -6,8 +6,9 @@ use lib.ListN.{length, take}
 use borrow.Author.Needs.{needs}
 use Rattle.model.specs.Lists.{gather}
 use Rattle.layout.specs.Rows.{netIn}
-use Rattle.flood.specs.Answers.{answerWords}
-use Rattle.ask.specs.Scans.{net-step, net-end, over-length}
+use Rattle.map.specs.Answers.{answerWords}
+use Rattle.map.specs.Laws.Walking.{over-length}
+use Rattle.ask.specs.Laws.Scans.{net-step, net-end}
 use Rattle.ask.proofs.net_into.Statement.{statement}
 use Rattle.ask.proofs.net_into.Tie as tie
 

@@ -3,9 +3,9 @@ use native.Mathlib.Omega.{arith}
 use mathlib.Core.Path.{ap}
 use lib.ListN.{length}
 use borrow.Author.Needs.{needs}
-use Rattle.ask.specs.Listings.{emptied-refused, emptied-answered}
-use Rattle.ask.specs.Words.{emptied-few}
-use Rattle.ask.specs.Ways.{Sure, sure-by}
+use Rattle.ask.specs.Laws.Listings.{emptied-refused, emptied-answered}
+use Rattle.ask.specs.Laws.Words.{emptied-few}
+use Rattle.ask.specs.Laws.Ways.{Sure, sure-by}
 use Rattle.ask.proofs.newly_emptied.Statement.{statement}
 use Rattle.ask.proofs.newly_emptied.Tie as tie
 

@@ -3,9 +3,9 @@ use native.Mathlib.Omega.{arith}
 use mathlib.Core.Path.{ap}
 use lib.ListN.{length}
 use borrow.Author.Needs.{needs}
-use Rattle.ask.specs.Listings.{occupied-refused, occupied-answered}
-use Rattle.ask.specs.Words.{occupied-few}
-use Rattle.ask.specs.Ways.{Sure, sure-by}
+use Rattle.ask.specs.Laws.Listings.{occupied-refused, occupied-answered}
+use Rattle.ask.specs.Laws.Words.{occupied-few}
+use Rattle.ask.specs.Laws.Ways.{Sure, sure-by}
 use Rattle.ask.proofs.newly_occupied.Statement.{statement}
 use Rattle.ask.proofs.newly_occupied.Tie as tie
 

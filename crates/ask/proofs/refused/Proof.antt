@@ -2,7 +2,7 @@
 use mathlib.Core.Bool.{cond, not}
 use mathlib.Core.Path.{_∙_, sym, ap}
 use borrow.Author.Needs.{needs}
-use Rattle.ask.specs.Ways.{short-way, tested-way}
+use Rattle.ask.specs.Laws.Ways.{short-way, tested-way}
 use Rattle.ask.proofs.refused.Statement.{statement}
 use Rattle.ask.proofs.refused.Tie as tie
 

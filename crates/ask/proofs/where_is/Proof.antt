@@ -2,9 +2,9 @@
 use mathlib.Core.Path.{_∙_}
 use borrow.Author.Needs.{needs}
 use Rattle.table.specs.Rows.{isTable1}
-use Rattle.ask.specs.Lookups.{where-refused, where-answered}
-use Rattle.ask.specs.Words.{entities-table}
-use Rattle.ask.specs.Ways.{Sure, sure-by}
+use Rattle.ask.specs.Laws.Lookups.{where-refused, where-answered}
+use Rattle.ask.specs.Laws.Words.{entities-table}
+use Rattle.ask.specs.Laws.Ways.{Sure, sure-by}
 use Rattle.ask.proofs.where_is.Statement.{statement}
 use Rattle.ask.proofs.where_is.Tie as tie
 

@@ -2,7 +2,7 @@
 use borrow.Author.Tests.{not-true, not-false}
 use native.Mathlib.Omega.{arith}
 use mathlib.Core.Path.{sym, _∙_}
-use Rattle.batch.specs.WordLaws.{early-many, early-out, early-late, early-none}
+use Rattle.batch.specs.Laws.Words.{early-many, early-out, early-late, early-none}
 use borrow.Author.Needs.{needs}
 use Rattle.batch.proofs.early_number.Statement.{statement}
 use Rattle.batch.proofs.early_number.Tie as tie

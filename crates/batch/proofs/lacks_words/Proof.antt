@@ -1,5 +1,5 @@
 -- `lacks_words` meets its contract.
-use Rattle.batch.specs.WordLaws.{lacks-some, lacks-moves}
+use Rattle.batch.specs.Laws.Words.{lacks-some, lacks-moves}
 use Rattle.batch.proofs.lacks_words.Statement.{statement}
 use Rattle.batch.proofs.lacks_words.Tie as tie
 

@@ -8,7 +8,7 @@ use lib.ListN.{drop}
 use Rattle.model.specs.Lists.{all}
 use Rattle.model.specs.Cells.{Cell, cellInRange}
 use Rattle.batch.specs.Words.{movesIn}
-use Rattle.batch.specs.WordLaws.{left, left-start, left-fails, left-passes, left-end}
+use Rattle.batch.specs.Laws.Words.{left, left-start, left-fails, left-passes, left-end}
 use borrow.Author.Needs.{needs}
 use Rattle.batch.proofs.moves_in_range.Statement.{statement}
 use Rattle.batch.proofs.moves_in_range.Tie as tie

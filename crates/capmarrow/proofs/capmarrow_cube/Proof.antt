@@ -4,7 +4,7 @@ use borrow.Author.Needs.{needs}
 use Rattle.ask.specs.Answers.{cubeOf}
 use Rattle.component.specs.declared.CellId.{CellId}
 use Rattle.capmarrow.specs.Told.{cellOf, listingTold}
-use Rattle.capmarrow.specs.Tells.{cell-given, filled-short, filled-long}
+use Rattle.capmarrow.specs.Laws.Tells.{cell-given, filled-short, filled-long}
 use Rattle.capmarrow.proofs.capmarrow_cube.Statement.{statement}
 use Rattle.capmarrow.proofs.capmarrow_cube.Tie as tie
 

@@ -4,7 +4,7 @@ use mir.Facts.{toZ-ofZ}
 use borrow.Author.Needs.{needs}
 use Rattle.ask.specs.Answers.{floodOf}
 use Rattle.capmarrow.specs.Told.{cellOf, depthGiven, floodingTold}
-use Rattle.capmarrow.specs.Tells.{cell-given, filled-short, filled-long}
+use Rattle.capmarrow.specs.Laws.Tells.{cell-given, filled-short, filled-long}
 use Rattle.capmarrow.proofs.capmarrow_flood.Statement.{statement}
 use Rattle.capmarrow.proofs.capmarrow_flood.Tie as tie
 

@@ -3,7 +3,7 @@ use mathlib.Core.Path.{_∙_}
 use borrow.Author.Needs.{needs}
 use Rattle.ask.specs.Answers.{groupOf, cornersOf}
 use Rattle.capmarrow.specs.Told.{telling, groupTold}
-use Rattle.capmarrow.specs.Tells.{tells-short, tells-long}
+use Rattle.capmarrow.specs.Laws.Tells.{tells-short, tells-long}
 use Rattle.capmarrow.proofs.capmarrow_group.Statement.{statement}
 use Rattle.capmarrow.proofs.capmarrow_group.Tie as tie
 

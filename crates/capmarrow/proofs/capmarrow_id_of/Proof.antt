@@ -4,7 +4,7 @@ use borrow.Author.Needs.{needs}
 use Rattle.ask.specs.Answers.{idOf}
 use Rattle.ask.specs.declared.IdOf.{IdOf}
 use Rattle.capmarrow.specs.Told.{cellOf, telling, idTold}
-use Rattle.capmarrow.specs.Tells.{cell-given, tells-short, tells-long}
+use Rattle.capmarrow.specs.Laws.Tells.{cell-given, tells-short, tells-long}
 use Rattle.capmarrow.proofs.capmarrow_id_of.Statement.{statement}
 use Rattle.capmarrow.proofs.capmarrow_id_of.Tie as tie
 

@@ -2,7 +2,7 @@
 use borrow.Author.Needs.{needs}
 use Rattle.ask.specs.Answers.{occupiedOf}
 use Rattle.capmarrow.specs.Told.{listingTold}
-use Rattle.capmarrow.specs.Tells.{filled-short, filled-long}
+use Rattle.capmarrow.specs.Laws.Tells.{filled-short, filled-long}
 use Rattle.capmarrow.proofs.capmarrow_newly_occupied.Statement.{statement}
 use Rattle.capmarrow.proofs.capmarrow_newly_occupied.Tie as tie
 

@@ -4,7 +4,7 @@ use borrow.Author.Needs.{needs}
 use Rattle.ask.specs.Answers.{whereOf}
 use Rattle.ask.specs.declared.Where.{Where}
 use Rattle.capmarrow.specs.Told.{telling, whereTold}
-use Rattle.capmarrow.specs.Tells.{tells-short, tells-long}
+use Rattle.capmarrow.specs.Laws.Tells.{tells-short, tells-long}
 use Rattle.capmarrow.proofs.capmarrow_where_is.Statement.{statement}
 use Rattle.capmarrow.proofs.capmarrow_where_is.Tie as tie
 

@@ -1,7 +1,7 @@
 -- A row that is written at the first place.
 use mathlib.Core.Path.{_∙_}
 use borrow.Author.Needs.{needs}
-use Rattle.capmarrow.specs.Tells.{over-front}
+use Rattle.capmarrow.specs.Laws.Tells.{over-front}
 use Rattle.capmarrow.proofs.tell.Statement.{statement}
 use Rattle.capmarrow.proofs.tell.Tie as tie
 

@@ -4,7 +4,7 @@ use mathlib.Core.Path.{refl}
 use borrow.Author.Needs.{needs}
 use Rattle.ask.specs.declared.Flooding.{Flooding}
 use Rattle.capmarrow.specs.Told.{floodingTold}
-use Rattle.capmarrow.specs.Tells.{telling-by, telling-none}
+use Rattle.capmarrow.specs.Laws.Tells.{telling-by, telling-none}
 use Rattle.capmarrow.proofs.tell_flooding.Statement.{statement}
 use Rattle.capmarrow.proofs.tell_flooding.Tie as tie
 

@@ -8,7 +8,7 @@ use lib.IntN.{pos}
 use borrow.Author.Needs.{needs}
 use Rattle.ask.specs.declared.GroupOf.{GroupOf}
 use Rattle.capmarrow.specs.Told.{axisWord, groupTold}
-use Rattle.capmarrow.specs.Tells.{telling-by, telling-none}
+use Rattle.capmarrow.specs.Laws.Tells.{telling-by, telling-none}
 use Rattle.capmarrow.proofs.tell_group.Statement.{statement}
 use Rattle.capmarrow.proofs.tell_group.Tie as tie
 

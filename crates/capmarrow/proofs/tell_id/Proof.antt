@@ -3,7 +3,7 @@ use mathlib.Core.Path.{refl}
 use borrow.Author.Needs.{needs}
 use Rattle.ask.specs.declared.IdOf.{IdOf}
 use Rattle.capmarrow.specs.Told.{idTold}
-use Rattle.capmarrow.specs.Tells.{telling-by, telling-none}
+use Rattle.capmarrow.specs.Laws.Tells.{telling-by, telling-none}
 use Rattle.capmarrow.proofs.tell_id.Statement.{statement}
 use Rattle.capmarrow.proofs.tell_id.Tie as tie
 

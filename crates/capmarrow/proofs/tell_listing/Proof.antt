@@ -2,7 +2,7 @@
 use mathlib.Core.Path.{refl}
 use borrow.Author.Needs.{needs}
 use Rattle.ask.specs.declared.Listing.{Listing}
-use Rattle.capmarrow.specs.Tells.{telling-by, telling-none}
+use Rattle.capmarrow.specs.Laws.Tells.{telling-by, telling-none}
 use Rattle.capmarrow.specs.Told.{listingTold}
 use Rattle.capmarrow.proofs.tell_listing.Statement.{statement}
 use Rattle.capmarrow.proofs.tell_listing.Tie as tie

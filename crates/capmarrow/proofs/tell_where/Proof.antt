@@ -6,7 +6,7 @@ use mir.Syntax.{w32}
 use borrow.Author.Needs.{needs}
 use Rattle.ask.specs.declared.Where.{Where}
 use Rattle.capmarrow.specs.Told.{axisWord, whereTold}
-use Rattle.capmarrow.specs.Tells.{telling-by, telling-none}
+use Rattle.capmarrow.specs.Laws.Tells.{telling-by, telling-none}
 use Rattle.capmarrow.proofs.tell_where.Statement.{statement}
 use Rattle.capmarrow.proofs.tell_where.Tie as tie
 

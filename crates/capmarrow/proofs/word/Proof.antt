@@ -7,7 +7,7 @@ use lib.ListN.{getD}
 use borrow.Author.Needs.{needs}
 use Rattle.component.specs.declared.Cell.{Cell}
 use Rattle.table.specs.Moves.{over}
-use Rattle.flood.specs.Answers.{signedWord, answerWords}
+use Rattle.map.specs.Answers.{signedWord, answerWords}
 use Rattle.capmarrow.specs.Told.{axisWord}
 use Rattle.capmarrow.proofs.word.Statement.{statement}
 use Rattle.capmarrow.proofs.word.Tie as tie

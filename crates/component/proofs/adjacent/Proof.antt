@@ -7,7 +7,7 @@ use borrow.Author.Tests.{ltb-true}
 use lib.Dec.{ltb}
 use Rattle.component.specs.Adjacent.{hasRoom}
 use Rattle.component.specs.Around.{neighbourAt, neighbourCount}
-use Rattle.component.specs.Tests.{both}
+use Rattle.component.specs.Laws.Tests.{both}
 use Rattle.component.specs.declared.Neighbour.the-variants.{Is, Nothing}
 use Rattle.component.proofs.adjacent.Statement.{statement}
 use Rattle.component.proofs.adjacent.Tie as tie

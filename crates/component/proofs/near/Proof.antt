@@ -6,7 +6,7 @@ use mathlib.Core.Bool.{Bool, true, false, _&&_}
 use native.Mathlib.Omega.{arith}
 use borrow.Author.Tests.{le-leb}
 use lib.Dec.{leb}
-use Rattle.component.specs.Tests.{leb-same}
+use Rattle.component.specs.Laws.Tests.{leb-same}
 use Rattle.component.specs.Touch.{close}
 use Rattle.component.proofs.near.Statement.{statement}
 use Rattle.component.proofs.near.Tie as tie

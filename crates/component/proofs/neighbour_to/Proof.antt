@@ -6,7 +6,7 @@ use native.Mathlib.Nat.{mod-lt}
 use mathlib.Core.Path.{_∙_, ap}
 use Rattle.component.specs.Around.{side, place}
 use Rattle.component.specs.Adjacent.{Room}
-use Rattle.component.specs.AdjacentLaws.{room-axes, room-above}
+use Rattle.component.specs.Laws.Adjacent.{room-axes, room-above}
 use Rattle.component.proofs.Block.{cube, row, layer, top-digit, from-corner}
 use Rattle.component.proofs.neighbour_to.Statement.{statement}
 use Rattle.component.proofs.neighbour_to.Tie as tie

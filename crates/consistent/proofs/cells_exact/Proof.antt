@@ -1,10 +1,10 @@
 use borrow.Author.Tests.{not-true, not-false}
 use lib.ListN.{getD, take, drop}
 use Rattle.table.specs.Rows.{cell}
-use Rattle.table.specs.Images.{table-facts}
-use Rattle.consistent.specs.CellLaws.{point2-uncounted, point2-cells, point2-ids, point2-apart, point2-stood}
-use Rattle.consistent.specs.PointLaws.{point1-few, entities-fit}
-use Rattle.consistent.specs.Wholes.{long-words}
+use Rattle.table.specs.Laws.Images.{table-facts}
+use Rattle.consistent.specs.Laws.Cells.{point2-uncounted, point2-cells, point2-ids, point2-apart, point2-stood}
+use Rattle.consistent.specs.Laws.Points.{point1-few, entities-fit}
+use Rattle.consistent.specs.Laws.Wholes.{long-words}
 use Prim.Native.Nat.{_-_}
 use native.Mathlib.Omega.{arith}
 use mathlib.Core.Path.{sym, _∙_}
@@ -13,8 +13,8 @@ use Rattle.consistent.proofs.cells_exact.Statement.{statement}
 use Rattle.consistent.proofs.cells_exact.Tie as tie
 use Rattle.consistent.proofs.cells_exact.Reads as reads
 use Rattle.consistent.proofs.cells_exact.Lts as lts
-use Rattle.consistent.proofs.same_cells.Reads as same-cells-reads
-use Rattle.consistent.proofs.stood_in.Reads as stood-in-reads
+use Rattle.scans.proofs.same_cells.Reads as same-cells-reads
+use Rattle.scans.proofs.stood_in.Reads as stood-in-reads
 use Rattle.table.proofs.is_table4.Reads as is-table4-reads
 
 sub-ents : tie.Need-sub-ents

@@ -2,7 +2,7 @@ use mathlib.Core.Path.{_≡_, sym, _∙_}
 use mathlib.Core.Bool.{true}
 use borrow.Author.Tests.{not-true, not-false}
 use Rattle.layout.specs.Points.{longEnough, point1, point2, point3, point4, point5, point6, point7}
-use Rattle.consistent.specs.Ways.{too-short, broken1, broken2, broken3, broken4, broken5, broken6, broken7, seven-hold, short-words, long-words}
+use Rattle.consistent.specs.Laws.Ways.{too-short, broken1, broken2, broken3, broken4, broken5, broken6, broken7, seven-hold, short-words, long-words}
 use borrow.Author.Needs.{needs}
 use Rattle.consistent.proofs.consistent.Statement.{statement}
 use Rattle.consistent.proofs.consistent.Tie as tie

@@ -4,10 +4,11 @@ use mathlib.Core.Bool.{_&&_}
 use Rattle.model.specs.Lists.{values}
 use Rattle.layout.specs.Rows.{netIn, entitiesIn}
 use Rattle.table.specs.Rows.{cellAt}
-use Rattle.scans.specs.Readings.{entity-lines, net-lines}
-use Rattle.scans.specs.Scans.{Lines, lines-as}
-use Rattle.consistent.specs.PointLaws.{entities-fit, point7-is, point7-over, point7-over-2}
-use Rattle.consistent.specs.Wholes.{long-words, occupied-length, emptied-length}
+use Rattle.scans.specs.Laws.Readings.{entity-lines, net-lines}
+use Rattle.scans.specs.Scans.{Lines}
+use Rattle.scans.specs.Laws.Scans.{lines-as}
+use Rattle.consistent.specs.Laws.Points.{entities-fit, point7-is, point7-over, point7-over-2}
+use Rattle.consistent.specs.Laws.Wholes.{long-words, occupied-length, emptied-length}
 use Prim.Native.Nat.{ℕ, _+_, _-_, _*_}
 use native.Mathlib.Omega.{arith}
 use mathlib.Core.Path.{_≡_, sym, ap, _∙_}
@@ -16,7 +17,7 @@ use Rattle.consistent.proofs.coordinates_in_range.Statement.{statement}
 use Rattle.consistent.proofs.coordinates_in_range.Tie as tie
 use Rattle.consistent.proofs.coordinates_in_range.Reads as reads
 use Rattle.consistent.proofs.coordinates_in_range.Lts as lts
-use Rattle.consistent.proofs.cells_in_range.Reads as cells-in-range-reads
+use Rattle.scans.proofs.cells_in_range.Reads as cells-in-range-reads
 
 sub-ents : tie.Need-sub-ents
 sub-ents c = search needs

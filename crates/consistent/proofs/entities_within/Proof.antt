@@ -1,8 +1,8 @@
 use lib.ListN.{getD}
 use lib.Dec.{eqb, leb}
 use mathlib.Core.Bool.{Bool, _&&_}
-use Rattle.consistent.specs.PointLaws.{point1-is}
-use Rattle.consistent.specs.Wholes.{long-words}
+use Rattle.consistent.specs.Laws.Points.{point1-is}
+use Rattle.consistent.specs.Laws.Wholes.{long-words}
 use Prim.Native.Nat.{_-_}
 use native.Mathlib.Omega.{arith}
 use mathlib.Core.Path.{ap, _∙_}

@@ -1,14 +1,14 @@
 use Prim.Native.Nat.{_-_}
 use native.Mathlib.Omega.{arith}
 use mathlib.Core.Path.{_∙_}
-use Rattle.consistent.specs.PointLaws.{tabled, point6-is}
-use Rattle.consistent.specs.Wholes.{long-words, ids-length}
+use Rattle.consistent.specs.Laws.Points.{tabled, point6-is}
+use Rattle.consistent.specs.Laws.Wholes.{long-words, ids-length}
 use borrow.Author.Needs.{needs}
 use Rattle.consistent.proofs.ids_below_next.Statement.{statement}
 use Rattle.consistent.proofs.ids_below_next.Tie as tie
 use Rattle.consistent.proofs.ids_below_next.Reads as reads
 use Rattle.consistent.proofs.ids_below_next.Lts as lts
-use Rattle.consistent.proofs.ids_below.Reads as ids-below-reads
+use Rattle.scans.proofs.ids_below.Reads as ids-below-reads
 
 sub-ids : tie.Need-sub-ids
 sub-ids c = search needs

@@ -1,5 +1,5 @@
-use Rattle.consistent.specs.ListLaws.{asks-parts, point4-is}
-use Rattle.consistent.specs.Wholes.{long-words}
+use Rattle.consistent.specs.Laws.Lists.{asks-parts, point4-is}
+use Rattle.consistent.specs.Laws.Wholes.{long-words}
 use Prim.Native.Nat.{_-_}
 use native.Mathlib.Omega.{arith}
 use borrow.Author.Needs.{needs}

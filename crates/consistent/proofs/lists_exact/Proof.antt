@@ -1,6 +1,6 @@
-use Rattle.consistent.specs.ListLaws.{point3-is}
-use Rattle.consistent.specs.PointLaws.{tabled}
-use Rattle.consistent.specs.Wholes.{long-words}
+use Rattle.consistent.specs.Laws.Lists.{point3-is}
+use Rattle.consistent.specs.Laws.Points.{tabled}
+use Rattle.consistent.specs.Laws.Wholes.{long-words}
 use Prim.Native.Nat.{_-_}
 use native.Mathlib.Omega.{arith}
 use mathlib.Core.Path.{_∙_}

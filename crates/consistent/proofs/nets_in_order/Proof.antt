@@ -1,9 +1,9 @@
 use lib.ListN.{getD, take, drop}
 use borrow.Author.Tests.{not-true, not-false}
-use Rattle.table.specs.Images.{table-facts}
+use Rattle.table.specs.Laws.Images.{table-facts}
 use Rattle.table.specs.Rows.{cell}
-use Rattle.consistent.specs.PointLaws.{tabled, point8-no, point8-no-2, point8-held}
-use Rattle.consistent.specs.Wholes.{long-words}
+use Rattle.consistent.specs.Laws.Points.{tabled, point8-no, point8-no-2, point8-held}
+use Rattle.consistent.specs.Laws.Wholes.{long-words}
 use Prim.Native.Nat.{_-_}
 use native.Mathlib.Omega.{arith}
 use mathlib.Core.Path.{sym, _∙_}
@@ -12,7 +12,7 @@ use Rattle.consistent.proofs.nets_in_order.Statement.{statement}
 use Rattle.consistent.proofs.nets_in_order.Tie as tie
 use Rattle.consistent.proofs.nets_in_order.Reads as reads
 use Rattle.consistent.proofs.nets_in_order.Lts as lts
-use Rattle.consistent.proofs.all_held.Reads as all-held-reads
+use Rattle.scans.proofs.all_held.Reads as all-held-reads
 use Rattle.table.proofs.is_table4.Reads as is-table4-reads
 
 sub-cells : tie.Need-sub-cells

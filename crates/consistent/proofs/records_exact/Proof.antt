@@ -1,7 +1,7 @@
 use lib.ListN.{getD, take, drop}
 use Rattle.layout.specs.Rows.{idsIn}
-use Rattle.consistent.specs.GroupLaws.{held-ids, asks-records, point5-uncounted, point5-words}
-use Rattle.consistent.specs.Wholes.{long-words, groups-length}
+use Rattle.consistent.specs.Laws.Groups.{held-ids, asks-records, point5-uncounted, point5-words}
+use Rattle.consistent.specs.Laws.Wholes.{long-words, groups-length}
 use Prim.Native.Nat.{_-_}
 use native.Mathlib.Omega.{arith}
 use mathlib.Core.Path.{sym, _∙_}
@@ -10,7 +10,7 @@ use Rattle.consistent.proofs.records_exact.Statement.{statement}
 use Rattle.consistent.proofs.records_exact.Tie as tie
 use Rattle.consistent.proofs.records_exact.Reads as reads
 use Rattle.consistent.proofs.records_exact.Lts as lts
-use Rattle.consistent.proofs.same_words.Reads as same-words-reads
+use Rattle.scans.proofs.same_words.Reads as same-words-reads
 use Rattle.partition.proofs.build_records.Reads as build-records-reads
 
 sub-ids : tie.Need-sub-ids

@@ -1,7 +1,7 @@
 -- `fresh` meets its contract.
 use native.Mathlib.Omega.{arith}
 use borrow.Author.Needs.{needs}
-use Rattle.fresh.specs.Image.{header-within, fresh-short, fresh-late, fresh-done}
+use Rattle.fresh.specs.Laws.Image.{header-within, fresh-short, fresh-late, fresh-done}
 use Rattle.fresh.proofs.fresh.Statement.{statement}
 use Rattle.fresh.proofs.fresh.Tie as tie
 use Rattle.fresh.proofs.fresh.Reads as reads

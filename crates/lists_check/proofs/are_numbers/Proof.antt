@@ -3,7 +3,8 @@ use lib.ListN.{length, drop, getD}
 use lib.Dec.{leb}
 use borrow.Author.Tests.{le-leb, lt-leb}
 use Rattle.model.specs.Lists.{all}
-use Rattle.scans.specs.Scans.{Lines, lines-of, all-no, all-next, all-end}
+use Rattle.scans.specs.Scans.{Lines}
+use Rattle.scans.specs.Laws.Scans.{lines-of, all-no, all-next, all-end}
 use Prim.Native.Nat.{ℕ, _-_}
 use mathlib.Core.Path.{_≡_, refl, sym, _∙_}
 use borrow.Author.Needs.{needs}

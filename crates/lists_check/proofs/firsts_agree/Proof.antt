@@ -2,9 +2,9 @@ use lib.ListN.{drop}
 use mathlib.Core.Bool.{not, _||_}
 use borrow.Author.Tests.{eq-eqb, ne-eqb, not-true, not-false}
 use Rattle.model.specs.Lists.{all, count}
-use Rattle.scans.specs.Scans.{all-no, all-next, all-end}
+use Rattle.scans.specs.Laws.Scans.{all-no, all-next, all-end}
 use Rattle.lists_check.specs.Agree.{agreeAt, firstAgrees}
-use Rattle.lists_check.specs.Agreement.{counted-lines}
+use Rattle.lists_check.specs.Laws.Agreement.{counted-lines}
 use Prim.Native.Nat.{_-_}
 use mathlib.Core.Path.{_≡_, refl, sym, _∙_}
 use borrow.Author.Needs.{needs}

@@ -3,7 +3,7 @@ use lib.ListN.{length, getD}
 use lib.Dec.{ltb}
 use mathlib.Core.Bool.{true}
 use borrow.Author.Tests.{lt-ltb}
-use Rattle.flood.specs.Lines.{whilst-stop, whilst-full}
+use Rattle.map.specs.Laws.Lines.{whilst-stop, whilst-full}
 use Prim.Native.Nat.{ℕ, _-_, _≤_, _<_}
 use native.Mathlib.Omega.{arith}
 use mathlib.Core.Path.{_≡_, ap}

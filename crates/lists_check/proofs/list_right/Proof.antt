@@ -1,9 +1,9 @@
 use mathlib.Core.Bool.{_&&_}
 use borrow.Author.Tests.{not-true, not-false}
 use Rattle.model.specs.Lists.{keys}
-use Rattle.table.specs.Images.{table-facts}
+use Rattle.table.specs.Laws.Images.{table-facts}
 use Rattle.table.specs.Rows.{cell, table4}
-use Rattle.lists_check.specs.Numbers.{right-untidy, right-numbers, right-nothing}
+use Rattle.lists_check.specs.Laws.Numbers.{right-untidy, right-numbers, right-nothing}
 use Prim.Native.Nat.{_-_}
 use mathlib.Core.Path.{sym, _∙_}
 use borrow.Author.Needs.{needs}

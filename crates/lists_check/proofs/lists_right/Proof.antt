@@ -1,10 +1,10 @@
 use lib.ListN.{length, drop}
 use borrow.Author.Tests.{not-true, not-false}
 use Rattle.model.specs.Lists.{all, keys}
-use Rattle.table.specs.Images.{table-facts}
+use Rattle.table.specs.Laws.Images.{table-facts}
 use Rattle.table.specs.Rows.{cell, table4}
-use Rattle.scans.specs.Scans.{all-no, all-next, all-end}
-use Rattle.lists_check.specs.RowLists.{list-lines, list-part}
+use Rattle.scans.specs.Laws.Scans.{all-no, all-next, all-end}
+use Rattle.lists_check.specs.Laws.RowLists.{list-lines, list-part}
 use Rattle.lists_check.specs.Lists.{listRight, rowRight}
 use Prim.Native.Nat.{_-_, _*_, _≤_}
 use mathlib.Core.Path.{_≡_, refl, sym, _∙_}

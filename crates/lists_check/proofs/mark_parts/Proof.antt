@@ -1,8 +1,9 @@
 use lib.ListN.{length}
 use mathlib.Core.List.{List}
 use Rattle.model.specs.Cells.{Cell}
-use Rattle.flood.specs.Standing.{Cells}
-use Rattle.lists_check.specs.Parts.{Labelled, labels-start, labels-skip, labels-asks, labels-flood}
+use Rattle.map.specs.Standing.{Cells}
+use Rattle.lists_check.specs.Parts.{Labelled}
+use Rattle.lists_check.specs.Laws.Parts.{labels-start, labels-skip, labels-asks, labels-flood}
 use Prim.Native.Nat.{ℕ, _-_, _≤_}
 use native.Mathlib.Omega.{arith}
 use mathlib.Core.Path.{_≡_, refl, _∙_, subst}
@@ -11,7 +12,7 @@ use Rattle.lists_check.proofs.mark_parts.Statement.{statement}
 use Rattle.lists_check.proofs.mark_parts.Tie as tie
 use Rattle.lists_check.proofs.mark_parts.Reads as reads
 use Rattle.lists_check.proofs.mark_parts.Lts as lts
-use Rattle.flood.proofs.flood_rows.Reads as flood-rows-reads
+use Rattle.map.proofs.flood_rows.Reads as flood-rows-reads
 
 abbrev Inv-loop : tie.InvT-loop
 Inv-loop cells m marks₀ queue₀ i₀ marks queue i =

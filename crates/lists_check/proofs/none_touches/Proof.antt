@@ -3,8 +3,8 @@ use mathlib.Core.Bool.{not}
 use Rattle.model.specs.Lists.{all, keys}
 use Rattle.table.specs.Rows.{table4}
 use Rattle.component.specs.Touch.{touches}
-use Rattle.scans.specs.Readings.{key-lines}
-use Rattle.scans.specs.Scans.{all-no, all-next, all-end}
+use Rattle.scans.specs.Laws.Readings.{key-lines}
+use Rattle.scans.specs.Laws.Scans.{all-no, all-next, all-end}
 use Prim.Native.Nat.{_-_}
 use native.Mathlib.Omega.{arith}
 use mathlib.Core.Path.{_≡_, refl, sym, ap, _∙_}

@@ -1,4 +1,4 @@
-use Rattle.lists_check.specs.Agreement.{agreement, unmarked}
+use Rattle.lists_check.specs.Laws.Agreement.{agreement, unmarked}
 use Prim.Native.Nat.{_-_}
 use mathlib.Core.Path.{_∙_}
 use borrow.Author.Needs.{needs}

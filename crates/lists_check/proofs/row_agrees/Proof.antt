@@ -1,9 +1,9 @@
 use lib.ListN.{drop, getD}
 use lib.Dec.{eqb}
 use Rattle.model.specs.Lists.{all, count}
-use Rattle.scans.specs.Scans.{all-no, all-next, all-end}
+use Rattle.scans.specs.Laws.Scans.{all-no, all-next, all-end}
 use Rattle.lists_check.specs.Agree.{agreeAt, idAt}
-use Rattle.lists_check.specs.Agreement.{agreed, disagreed, counted-lines}
+use Rattle.lists_check.specs.Laws.Agreement.{agreed, disagreed, counted-lines}
 use Prim.Native.Nat.{_-_}
 use mathlib.Core.Path.{_≡_, refl, sym, _∙_}
 use borrow.Author.Needs.{needs}

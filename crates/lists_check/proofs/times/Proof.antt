@@ -2,7 +2,7 @@ use mathlib.Core.List.{List}
 use lib.ListN.{length, drop, drop-of-length-le}
 use lib.Dec.{eqb}
 use Rattle.model.specs.Lists.{keep}
-use Rattle.lists_check.specs.Numbers.{times-yes, times-no}
+use Rattle.lists_check.specs.Laws.Numbers.{times-yes, times-no}
 use Prim.Native.Nat.{ℕ, _+_, _-_, _≤_}
 use native.Mathlib.Omega.{arith}
 use mathlib.Core.Path.{_≡_, ap}

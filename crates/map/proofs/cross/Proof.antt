@@ -1,6 +1,6 @@
 -- Each way out is one of `Steps`.
 use Rattle.map.proofs.Steps.{cross-leaves, cross-joins}
-use Rattle.table.specs.Next.{room-space}
+use Rattle.table.specs.Laws.Next.{room-space}
 use Rattle.table.specs.Rows.{cell}
 use mathlib.Core.Path.{sym, _∙_}
 use borrow.Author.Needs.{needs}

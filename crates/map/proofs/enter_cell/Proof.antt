@@ -1,6 +1,6 @@
 -- Each way out is one of `Passing`: the cell was empty, or it was not.
 use Rattle.map.proofs.Passing.{crowd-shows, enters-fits, enters-nobody, enters-somebody, enters-opens, entered}
-use Rattle.table.specs.Next.{room-space}
+use Rattle.table.specs.Laws.Next.{room-space}
 use Rattle.table.specs.Rows.{cell}
 use mathlib.Core.Bool.{true, false}
 use mathlib.Core.Path.{refl}

@@ -1,6 +1,6 @@
 -- The row of the entity says the cell, and the entity has entered it.
 use Rattle.map.proofs.Moving.{ents-shows, enters-cell, entered-held}
-use Rattle.table.specs.Next.{room-space}
+use Rattle.table.specs.Laws.Next.{room-space}
 use Rattle.table.specs.Rows.{number}
 use Rattle.map.proofs.insert.Statement.{statement}
 use Rattle.map.proofs.insert.Tie as tie

@@ -1,7 +1,9 @@
 -- After k numbers those of the first k neighbours that are keys are noted.
-use Rattle.map.specs.TableLaws.{note-none, note-yes, note-no}
+use Rattle.map.specs.Laws.Tables.{note-none, note-yes, note-no}
 use Rattle.map.specs.Told.{padded, noted}
-use Rattle.table.specs.Rows.{table4}
+use Rattle.table.specs.Rows.{cell, table4}
+use Rattle.table.specs.Laws.Kinds.{cell-lawful}
+use Rattle.table.specs.Laws.Answers.{is-among}
 use Rattle.layout.specs.Rows.{neighbourOf}
 use Rattle.model.specs.Lists.{has, keys}
 use Rattle.component.specs.Order.{same}
@@ -15,10 +17,10 @@ use Rattle.map.proofs.note.Statement.{statement}
 use Rattle.map.proofs.note.Tie as tie
 
 abbrev Inv-loop : tie.InvT-loop
-Inv-loop cells m c row₀ k₀ row k = (k ≤ 26) × (length row ≡ length row₀) × (row ≡ take 4 row₀ ++ padded 26 (noted (keys (table4 30 m cells)) (neighbourOf c) k))
+Inv-loop cells m c row₀ near₀ k₀ row near k = (k ≤ 26) × (length row ≡ length row₀) × (row ≡ take 4 row₀ ++ padded 26 (noted (keys (table4 30 m cells)) (neighbourOf c) k))
 
 abbrev μ-loop : tie.MeasureT-loop
-μ-loop cells m c row₀ k₀ row k = 26 - k
+μ-loop cells m c row₀ near₀ k₀ row near k = 26 - k
 
 loop-holds : tie.Need-loop-holds Inv-loop μ-loop
 loop-holds c =
@@ -31,14 +33,20 @@ add-neighbour-of c = search needs
 neighbour-of-requires : tie.Need-neighbour-of-requires Inv-loop μ-loop
 neighbour-of-requires c κs = search needs
 
-contains-requires : tie.Need-contains-requires Inv-loop μ-loop
-contains-requires c κs = c .before .before .before .before .before .pre .0
+find4-near-requires : tie.Need-find4-near-requires Inv-loop μ-loop
+find4-near-requires c κs = c .before .before .before .before .before .pre .0
+
+index-requires : tie.Need-index-requires Inv-loop μ-loop
+index-requires c κs = search needs
+
+is-found-requires : tie.Need-is-found-requires Inv-loop μ-loop
+is-found-requires c κs = search needs
 
 add-append : tie.Need-add-append Inv-loop μ-loop
 add-append c = search needs
 
 append-requires : tie.Need-append-requires Inv-loop μ-loop
-append-requires c κs = omega (arith, c .before .before .before .before .before .loop .inv .1, c .before .before .before .before .before .before .before .before .pre .1)
+append-requires c κs = omega (arith, c .before .before .before .before .before .before .before .loop .inv .1, c .before .before .before .before .before .before .before .before .before .before .pre .1)
 
 add-k : tie.Need-add-k Inv-loop μ-loop
 add-k c = search needs
@@ -48,12 +56,12 @@ loop-less c = search needs
 
 loop-again : tie.Need-loop-again Inv-loop μ-loop
 loop-again c =
-    let a = c .before .before .before .before .before .before .before .before .before .before .before .args in
-    let l = c .before .before .before .before .before .before .before .before .loop in (
+    let a = c .before .before .before .before .before .before .before .before .before .before .before .before .before .args in
+    let l = c .before .before .before .before .before .before .before .before .before .before .loop in (
       omega arith,
       c .before .before .append .kept .0 ∙ l .inv .1,
-      note-yes (keys (table4 30 (a .m) (a .cells .now))) (neighbourOf (a .c)) (l .k) (a .row .now) (c .before .before .before .before .before .before .before .before .before .before .before .pre .1) (omega arith) (l .row) (l .inv .2)
-          (ap (has same (keys (table4 30 (a .m) (a .cells .now)))) (sym (c .before .before .before .before .before .before .neighbour-of .ensures)) ∙ sym (c .before .before .before .before .before .contains .ensures) ∙ c .before .before .before .before .if1 .taken) (c .before .before .append .last .0) (c .before .before .append .ensures),
+      note-yes (keys (table4 30 (a .m) (a .cells .now))) (neighbourOf (a .c)) (l .k) (a .row .now) (c .before .before .before .before .before .before .before .before .before .before .before .before .before .pre .1) (omega arith) (l .row) (l .inv .2)
+          (ap (has same (keys (table4 30 (a .m) (a .cells .now)))) (sym (c .before .before .before .before .before .before .before .before .neighbour-of .ensures)) ∙ sym (is-among cell cell-lawful 30 (a .m) (a .cells .now) (c .before .before .before .before .before .before .before .before .before .before .before .before .before .pre .0) (c .before .before .before .before .before .before .before .before .neighbour-of .result) (c .before .before .before .before .before .before .before .find4-near .result) (c .before .before .before .before .before .before .before .find4-near .ensures)) ∙ sym (c .before .before .before .before .before .is-found .ensures) ∙ c .before .before .before .before .if1 .taken) (c .before .before .append .last .0) (c .before .before .append .ensures),
     )
 
 add-k-2 : tie.Need-add-k-2 Inv-loop μ-loop
@@ -64,12 +72,12 @@ loop-less-2 c = search needs
 
 loop-again-2 : tie.Need-loop-again-2 Inv-loop μ-loop
 loop-again-2 c =
-    let a = c .before .before .before .before .before .before .before .args in
-    let l = c .before .before .before .before .loop in (
+    let a = c .before .before .before .before .before .before .before .before .before .args in
+    let l = c .before .before .before .before .before .before .loop in (
       omega arith,
       l .inv .1,
       note-no (keys (table4 30 (a .m) (a .cells .now))) (neighbourOf (a .c)) (l .k) (a .row .now) (l .row) (l .inv .2)
-          (ap (has same (keys (table4 30 (a .m) (a .cells .now)))) (sym (c .before .before .neighbour-of .ensures)) ∙ sym (c .before .contains .ensures) ∙ c .if1 .left),
+          (ap (has same (keys (table4 30 (a .m) (a .cells .now)))) (sym (c .before .before .before .before .neighbour-of .ensures)) ∙ sym (is-among cell cell-lawful 30 (a .m) (a .cells .now) (c .before .before .before .before .before .before .before .before .before .pre .0) (c .before .before .before .before .neighbour-of .result) (c .before .before .before .find4-near .result) (c .before .before .before .find4-near .ensures)) ∙ sym (c .before .is-found .ensures) ∙ c .if1 .left),
     )
 
 same-length : tie.Need-same-length Inv-loop μ-loop
@@ -91,7 +99,9 @@ note-spec =
     loop-holds
     add-neighbour-of
     neighbour-of-requires
-    contains-requires
+    find4-near-requires
+    index-requires
+    is-found-requires
     add-append
     append-requires
     add-k

@@ -1,5 +1,5 @@
 -- After k numbers the first k neighbours are told.
-use Rattle.map.specs.TableLaws.{told-none, told-more}
+use Rattle.map.specs.Laws.Tables.{told-none, told-more}
 use Rattle.map.specs.Told.{Shows, toldOne, told}
 use Rattle.table.specs.Rows.{cell, table4}
 use Rattle.layout.specs.Rows.{neighbourOf}
@@ -13,10 +13,10 @@ use Rattle.map.proofs.tell.Statement.{statement}
 use Rattle.map.proofs.tell.Tie as tie
 
 abbrev Inv-loop : tie.InvT-loop
-Inv-loop cells₀ m c joins k₀ cells k = (k ≤ 26) × (length cells ≡ length cells₀) × (Shows cell 30 m cells (change (told joins (neighbourOf c) k) (table4 30 m cells₀)))
+Inv-loop cells₀ m c joins near₀ k₀ cells near k = (k ≤ 26) × (length cells ≡ length cells₀) × (Shows cell 30 m cells (change (told joins (neighbourOf c) k) (table4 30 m cells₀)))
 
 abbrev μ-loop : tie.MeasureT-loop
-μ-loop cells₀ m c joins k₀ cells k = 26 - k
+μ-loop cells₀ m c joins near₀ k₀ cells near k = 26 - k
 
 loop-holds : tie.Need-loop-holds Inv-loop μ-loop
 loop-holds c =

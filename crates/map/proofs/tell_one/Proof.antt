@@ -13,8 +13,8 @@ use Rattle.map.proofs.tell_one.Tie as tie
 neighbour-of-requires : tie.Need-neighbour-of-requires
 neighbour-of-requires c κs = search needs
 
-find4-requires : tie.Need-find4-requires
-find4-requires c κs = search needs
+find4-near-requires : tie.Need-find4-near-requires
+find4-near-requires c κs = search needs
 
 enum-known-p : tie.Need-enum-known-p
 enum-known-p c = search needs
@@ -26,10 +26,10 @@ revise-requires : tie.Need-revise-requires
 revise-requires c κs =
     let s = c .before .before .before .before .before .before .before .before in
     found-row (s .args .m) (s .args .cells .now) (s .pre .0) (s .args .joins) (neighbourOf (s .args .c) (s .args .k)) (27 - s .args .k) (c .before .before .p .given .0 .0)
-    (sym (c .before .before .p .given .1) ∙ c .before .before .before .before .find4 .ensures ∙ ap (placeOf below (keys (table4 30 (s .args .m) (s .args .cells .now)))) (c .before .before .before .before .before .neighbour-of .ensures))
+    (sym (c .before .before .p .given .1) ∙ c .before .before .before .before .find4-near .ensures ∙ ap (placeOf below (keys (table4 30 (s .args .m) (s .args .cells .now)))) (c .before .before .before .before .before .neighbour-of .ensures))
 
-enum-told : tie.Need-enum-told
-enum-told c = search needs
+enum-known-p-2 : tie.Need-enum-known-p-2
+enum-known-p-2 c = search needs
 
 same-length : tie.Need-same-length
 same-length c = search needs
@@ -38,7 +38,7 @@ returns : tie.Need-returns
 returns c =
     let s = c .before .before .before .before .before .before .before .before .before .before .before in
     told-found (s .args .m) (s .args .cells .now) (s .pre .0) (s .args .joins) (neighbourOf (s .args .c) (s .args .k)) (27 - s .args .k) (c .before .before .before .before .before .p .given .0 .0)
-    (sym (c .before .before .before .before .before .p .given .1) ∙ c .before .before .before .before .before .before .before .find4 .ensures ∙ ap (placeOf below (keys (table4 30 (s .args .m) (s .args .cells .now)))) (c .before .before .before .before .before .before .before .before .neighbour-of .ensures))
+    (sym (c .before .before .before .before .before .p .given .1) ∙ c .before .before .before .before .before .before .before .find4-near .ensures ∙ ap (placeOf below (keys (table4 30 (s .args .m) (s .args .cells .now)))) (c .before .before .before .before .before .before .before .before .neighbour-of .ensures))
     (c .before .before .revise .last .0) (c .before .before .revise .ensures)
 
 same-length-2 : tie.Need-same-length-2
@@ -46,20 +46,20 @@ same-length-2 c = search needs
 
 returns-2 : tie.Need-returns-2
 returns-2 c =
-    let s = c .before .before .before .before .before .before in
-    told-missing (s .args .m) (s .args .cells .now) (s .pre .0) (s .args .joins) (neighbourOf (s .args .c) (s .args .k)) (27 - s .args .k) (c .enum-told .given .0 .0)
-    (sym (c .enum-told .given .1) ∙ c .before .before .find4 .ensures ∙ ap (placeOf below (keys (table4 30 (s .args .m) (s .args .cells .now)))) (c .before .before .before .neighbour-of .ensures))
+    let s = c .before .before .before .before .before .before .before in
+    told-missing (s .args .m) (s .args .cells .now) (s .pre .0) (s .args .joins) (neighbourOf (s .args .c) (s .args .k)) (27 - s .args .k) (c .before .p2 .given .0 .0)
+    (sym (c .before .p2 .given .1) ∙ c .before .before .before .find4-near .ensures ∙ ap (placeOf below (keys (table4 30 (s .args .m) (s .args .cells .now)))) (c .before .before .before .before .neighbour-of .ensures))
 
 pub tell-one-spec : {M : Type 1} → statement M
 tell-one-spec =
     tie.close
     (tie.spec
     neighbour-of-requires
-    find4-requires
+    find4-near-requires
     enum-known-p
     sub-revise
     revise-requires
-    enum-told
+    enum-known-p-2
     same-length
     returns
     same-length-2

@@ -4,7 +4,7 @@ use mathlib.Core.Path.{_≡_, subst}
 use mathlib.Core.Logic.{_⊎_, inl, inr, ⊎-elim}
 use mathlib.Core.Bool.{Bool, not}
 use lib.Dec.{T, T-not, not-T, eqb, eqb→eq, eqb-refl, ltb, ltb→lt, lt→ltb, nltb→le}
-use Rattle.component.specs.OrderLaws.{same-eq, same-self, below-irrefl, below-trans, below-tri}
+use Rattle.component.specs.Laws.Order.{same-eq, same-self, below-irrefl, below-trans, below-tri}
 use Rattle.model.specs.Cells.{same, below}
 use Rattle.model.specs.Laws.Tests.{decided}
 

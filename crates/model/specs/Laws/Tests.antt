@@ -5,7 +5,7 @@ use mathlib.Core.Path.{_≡_, refl, sym, subst}
 use mathlib.Core.Logic.{_⊎_, inl, inr}
 use mathlib.Core.Bool.{Bool, true, false, cond, _&&_, _||_, not}
 use lib.Dec.{T, eqb, eqb→eq, eqb-refl, leb, leb→le, ltb, ltb→lt, T-not, not-T}
-pub use Rattle.component.specs.Tests.{and-fst, and-snd, and-both, or-cases, or-left, or-right, or-not, and-not}
+pub use Rattle.component.specs.Laws.Tests.{and-fst, and-snd, and-both, or-cases, or-left, or-right, or-not, and-not}
 
 -- If a conjunction fails, one of its parts fails.
 pub and-cases : (a b : Bool) → T (not (a && b)) → T (not a) ⊎ T (not b)

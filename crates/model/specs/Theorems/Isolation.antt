@@ -9,7 +9,7 @@ use mathlib.Core.Option.{some}
 use lib.Dec.{T, eqb, eqb→eq}
 use Rattle.model.specs.Lists.{keep, has, keys, get, only, change}
 use Rattle.component.specs.Around.{place, around}
-use Rattle.component.specs.Neighbours.{around-index}
+use Rattle.component.specs.Laws.Neighbours.{around-index}
 use Rattle.model.specs.Cells.{Cell, same, Offsets, all26, holdsOpposites, touchBy}
 use Rattle.model.specs.Occupancy.{Occupancy, Batch, occupied, playBatch}
 use Rattle.model.specs.Flood.{orEmpty, listOf, flood}

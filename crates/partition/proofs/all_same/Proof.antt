@@ -1,4 +1,4 @@
-use Rattle.partition.specs.JoinLaws.{all-on, all-not, all-end}
+use Rattle.partition.specs.Laws.Join.{all-on, all-not, all-end}
 use Rattle.model.specs.Lists.{all}
 use lib.ListN.{take, drop, getD}
 use lib.Dec.{eqb}

@@ -1,5 +1,5 @@
-use Rattle.partition.specs.RecordLaws.{turn-asks, turn-done, all-done}
-use Rattle.partition.specs.HeldLaws.{groups-none}
+use Rattle.partition.specs.Laws.Records.{turn-asks, turn-done, all-done}
+use Rattle.partition.specs.Laws.Held.{groups-none}
 use Rattle.partition.specs.Held.{HeldTable, HeldGroups}
 use Rattle.model.specs.Groups.{Ids, records}
 use lib.ListN.{length, take}

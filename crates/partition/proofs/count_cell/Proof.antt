@@ -1,4 +1,4 @@
-use Rattle.partition.specs.HeldLaws.{groups-table, group-row, group-few, group-grown, group-first, count-asks, count-done}
+use Rattle.partition.specs.Laws.Held.{groups-table, group-row, group-few, group-grown, group-first, count-asks, count-done}
 use Rattle.table.specs.declared.Place.the-variants.{Found, Missing}
 use Rattle.table.specs.declared.Place.{Place}
 use Rattle.table.specs.Rows.{number, tableOf, placeOf}

@@ -1,6 +1,6 @@
-use Rattle.partition.specs.FoundLaws.{found-none, found-more, found-same, tried-all}
-use Rattle.partition.specs.IdLaws.{row-found, row-missing}
-use Rattle.partition.specs.HeldLaws.{ids-table}
+use Rattle.partition.specs.Laws.Found.{found-none, found-more, found-same, tried-all}
+use Rattle.partition.specs.Laws.Ids.{row-found, row-missing}
+use Rattle.partition.specs.Laws.Held.{ids-table}
 use Rattle.partition.specs.Held.{HeldRows, tried, idsAt}
 use Rattle.model.specs.Groups.{Ids}
 use Rattle.model.specs.Cells.{same}
@@ -16,26 +16,23 @@ use Rattle.partition.proofs.found_at.Tie as tie
 use Rattle.partition.proofs.found_at.Reads as reads
 use Rattle.partition.proofs.found_at.Lts as lts
 use Rattle.layout.proofs.neighbour_of.Reads as neighbour-of-reads
-use Rattle.table.proofs.find4.Reads as find4-reads
 
 abbrev Inv-loop : tie.InvT-loop
-Inv-loop ids n c found₀ m₀ k₀ found m k = (k ≤ 26) × (m ≤ k) × (length found ≡ length found₀) × (26 ≤ length found₀) × ((t : Ids) → HeldRows ids n t → take m found ≡ idsAt t (tried c k))
+Inv-loop ids n c found₀ near₀ m₀ k₀ found near m k = (k ≤ 26) × (m ≤ k) × (length found ≡ length found₀) × (26 ≤ length found₀) × ((t : Ids) → HeldRows ids n t → take m found ≡ idsAt t (tried c k))
 
 abbrev μ-loop : tie.MeasureT-loop
-μ-loop ids n c found₀ m₀ k₀ found m k = 26 - k
+μ-loop ids n c found₀ near₀ m₀ k₀ found near m k = 26 - k
 
--- DEFS
 abbrev at : tie.After-known-told Inv-loop μ-loop → ℕ
 at c = c .before .p .given .0 .0
 
-is-found : (c : tie.After-known-told Inv-loop μ-loop) (t : Ids) → HeldRows (c .before .before .before .before .before .before .before .before .before .args .ids .now) (c .before .before .before .before .before .before .before .before .before .args .n) t
-    → (at c < c .before .before .before .before .before .before .before .before .before .args .n) × (get same t (c .before .before .before .before .neighbour-of .result) ≡ some (getD (c .before .before .before .before .before .before .before .before .before .args .ids .now) (5 * at c + 4) 0))
-is-found c t h = row-found (c .before .before .before .before .before .before .before .before .before .args .ids .now) (c .before .before .before .before .before .before .before .before .before .args .n) t h (c .before .before .before .before .neighbour-of .result) (at c) (sym (c .before .p .given .1) ∙ c .before .before .before .find4 .ensures)
+is-found : (c : tie.After-known-told Inv-loop μ-loop) (t : Ids) → HeldRows (c .before .before .before .before .before .before .before .before .before .before .args .ids .now) (c .before .before .before .before .before .before .before .before .before .before .args .n) t
+    → (at c < c .before .before .before .before .before .before .before .before .before .before .args .n) × (get same t (c .before .before .before .before .before .neighbour-of .result) ≡ some (getD (c .before .before .before .before .before .before .before .before .before .before .args .ids .now) (5 * at c + 4) 0))
+is-found c t h = row-found (c .before .before .before .before .before .before .before .before .before .before .args .ids .now) (c .before .before .before .before .before .before .before .before .before .before .args .n) t h (c .before .before .before .before .before .neighbour-of .result) (at c) (sym (c .before .p .given .1) ∙ c .before .before .before .before .find4-near .ensures)
 
-within : (c : tie.After-known-told Inv-loop μ-loop) → (at c < c .before .before .before .before .before .before .before .before .before .args .n) × (5 * c .before .before .before .before .before .before .before .before .before .args .n ≤ length (c .before .before .before .before .before .before .before .before .before .args .ids .now))
-within c = let s = c .before .before .before .before .before .before .before .before .before in (is-found c (s .pre .0) (s .pre .1) .0, s .pre .1 .fits)
+within : (c : tie.After-known-told Inv-loop μ-loop) → (at c < c .before .before .before .before .before .before .before .before .before .before .args .n) × (5 * c .before .before .before .before .before .before .before .before .before .before .args .n ≤ length (c .before .before .before .before .before .before .before .before .before .before .args .ids .now))
+within c = let s = c .before .before .before .before .before .before .before .before .before .before in (is-found c (s .pre .0) (s .pre .1) .0, s .pre .1 .fits)
 
--- ENDDEFS
 loop-holds : tie.Need-loop-holds Inv-loop μ-loop
 loop-holds c = let s = c .before .before in (omega arith, omega arith, refl, s .pre .3, λ t h. found-none t (s .args .c) (s .args .found .now))
 
@@ -45,8 +42,11 @@ add-neighbour-of c = search needs
 neighbour-of-requires : tie.Need-neighbour-of-requires Inv-loop μ-loop
 neighbour-of-requires c κs = search needs
 
-find4-requires : tie.Need-find4-requires Inv-loop μ-loop
-find4-requires c κs = let s = c .before .before .before .before .before in ids-table (s .args .ids .now) (s .args .n) (s .pre .0) (s .pre .1)
+find4-near-requires : tie.Need-find4-near-requires Inv-loop μ-loop
+find4-near-requires c κs = let s = c .before .before .before .before .before in ids-table (s .args .ids .now) (s .args .n) (s .pre .0) (s .pre .1)
+
+index-requires : tie.Need-index-requires Inv-loop μ-loop
+index-requires c κs = search needs
 
 enum-known-p : tie.Need-enum-known-p Inv-loop μ-loop
 enum-known-p c = search needs
@@ -80,13 +80,14 @@ loop-less c = search needs
 
 loop-again : tie.Need-loop-again Inv-loop μ-loop
 loop-again c =
-    let s = c .before .before .before .before .before .before .before .before .before .before in
-    let v = c .before .before .before .before .before .before .before .loop .inv in (
+    let s = c .before .before .before .before .before .before .before .before .before .before .before in
+    let l = c .before .before .before .before .before .before .before .before .loop in
+    let v = l .inv in (
       omega arith,
       omega arith,
       simp length-set (v .2),
       v .3,
-      λ t h. found-more t (s .args .c) (c .before .before .before .before .before .before .before .loop .k) (c .before .before .before .before .before .before .before .loop .m) (c .before .before .before .before .before .before .before .loop .found) (v .4 t h) (getD (s .args .ids .now) (5 * at (c .before) + 4) 0) (c .before .before .before .before .before .neighbour-of .result) (omega arith) (c .before .before .before .before .before .neighbour-of .ensures) (is-found (c .before) t h .1),
+      λ t h. found-more t (s .args .c) (l .k) (l .m) (l .found) (v .4 t h) (getD (s .args .ids .now) (5 * at (c .before) + 4) 0) (c .before .before .before .before .before .before .neighbour-of .result) (omega arith) (c .before .before .before .before .before .before .neighbour-of .ensures) (is-found (c .before) t h .1),
     )
 
 enum-told : tie.Need-enum-told Inv-loop μ-loop
@@ -100,14 +101,15 @@ loop-less-2 c = search needs
 
 loop-again-2 : tie.Need-loop-again-2 Inv-loop μ-loop
 loop-again-2 c =
-    let s = c .before .before .before .before .before .before .before .before in
-    let v = c .before .before .before .before .before .loop .inv in (
+    let s = c .before .before .before .before .before .before .before .before .before in
+    let l = c .before .before .before .before .before .before .loop in
+    let v = l .inv in (
       omega arith,
       omega arith,
       v .2,
       v .3,
-      λ t h. found-same t (s .args .c) (c .before .before .before .before .before .loop .k) (c .before .before .before .before .before .loop .m) (c .before .before .before .before .before .loop .found) (v .4 t h) (c .before .before .before .neighbour-of .result) (c .before .before .before .neighbour-of .ensures)
-          (row-missing (s .args .ids .now) (s .args .n) t h (c .before .before .before .neighbour-of .result) (c .enum-told .given .0 .0) (sym (c .enum-told .given .1) ∙ c .before .before .find4 .ensures)),
+      λ t h. found-same t (s .args .c) (l .k) (l .m) (l .found) (v .4 t h) (c .before .before .before .before .neighbour-of .result) (c .before .before .before .before .neighbour-of .ensures)
+          (row-missing (s .args .ids .now) (s .args .n) t h (c .before .before .before .before .neighbour-of .result) (c .enum-told .given .0 .0) (sym (c .enum-told .given .1) ∙ c .before .before .before .find4-near .ensures)),
     )
 
 same-length : tie.Need-same-length Inv-loop μ-loop
@@ -129,7 +131,8 @@ found-at-spec =
     loop-holds
     add-neighbour-of
     neighbour-of-requires
-    find4-requires
+    find4-near-requires
+    index-requires
     enum-known-p
     mul-found
     add-found

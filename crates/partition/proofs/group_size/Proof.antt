@@ -1,4 +1,4 @@
-use Rattle.partition.specs.JoinLaws.{size-more, size-same, size-all}
+use Rattle.partition.specs.Laws.Join.{size-more, size-same, size-all}
 use Rattle.partition.specs.Held.{HeldRows}
 use Rattle.model.specs.Groups.{Ids, size}
 use lib.ListN.{take}

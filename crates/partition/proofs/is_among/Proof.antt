@@ -1,5 +1,5 @@
-use Rattle.partition.specs.LeaveLaws.{among-yes, among-no}
-use Rattle.partition.specs.HeldLaws.{cells-table}
+use Rattle.partition.specs.Laws.Leave.{among-yes, among-no}
+use Rattle.partition.specs.Laws.Held.{cells-table}
 use mathlib.Core.Path.{sym, _∙_}
 use borrow.Author.Needs.{needs}
 use Rattle.partition.proofs.is_among.Statement.{statement}

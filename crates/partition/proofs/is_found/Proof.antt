@@ -1,4 +1,4 @@
-use Rattle.partition.specs.JoinLaws.{has-here, has-on, has-end}
+use Rattle.partition.specs.Laws.Join.{has-here, has-on, has-end}
 use Rattle.model.specs.Lists.{has}
 use lib.Dec.{eqb}
 use lib.ListN.{take, drop}

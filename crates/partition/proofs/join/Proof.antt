@@ -1,4 +1,4 @@
-use Rattle.partition.specs.JoinLaws.{join-same, join-done}
+use Rattle.partition.specs.Laws.Join.{join-same, join-done}
 use mathlib.Core.Path.{sym, _∙_}
 use Prim.Native.Nat.{_-_}
 use borrow.Author.Needs.{needs}

@@ -1,4 +1,4 @@
-use Rattle.partition.specs.JoinLaws.{largest-new, largest-old, largest-end}
+use Rattle.partition.specs.Laws.Join.{largest-new, largest-old, largest-end}
 use Rattle.partition.specs.Held.{HeldRows}
 use Rattle.model.specs.Groups.{Ids, largestGroup}
 use lib.ListN.{take, drop, getD}

@@ -1,4 +1,4 @@
-use Rattle.partition.specs.JoinLaws.{partly, merged, merge-set, merge-same, partly-all}
+use Rattle.partition.specs.Laws.Join.{partly, merged, merge-set, merge-same, partly-all}
 use Rattle.partition.specs.Held.{HeldRows}
 use Rattle.model.specs.Groups.{Ids}
 use lib.ListN.{length, take, length-set}

@@ -1,5 +1,5 @@
-use Rattle.partition.specs.IdLaws.{push-asks, push-done}
-use Rattle.partition.specs.HeldLaws.{put-shorter}
+use Rattle.partition.specs.Laws.Ids.{push-asks, push-done}
+use Rattle.partition.specs.Laws.Held.{put-shorter}
 use Rattle.model.specs.Laws.Orders.{cells}
 use native.Mathlib.Omega.{arith}
 use borrow.Author.Needs.{needs}

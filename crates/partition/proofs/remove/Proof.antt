@@ -1,5 +1,5 @@
-use Rattle.partition.specs.IdLaws.{remove-done}
-use Rattle.partition.specs.HeldLaws.{ids-table}
+use Rattle.partition.specs.Laws.Ids.{remove-done}
+use Rattle.partition.specs.Laws.Held.{ids-table}
 use Rattle.model.specs.Laws.Members.{keep-shorter}
 use Rattle.model.specs.Cells.{Cell, same}
 use mathlib.Core.Bool.{not}

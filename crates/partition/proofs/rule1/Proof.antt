@@ -1,4 +1,4 @@
-use Rattle.partition.specs.JoinLaws.{rule1-none, rule1-some}
+use Rattle.partition.specs.Laws.Join.{rule1-none, rule1-some}
 use native.Mathlib.Omega.{arith}
 use Prim.Native.Nat.{_-_}
 use borrow.Author.Needs.{needs}

@@ -1,4 +1,4 @@
-use Rattle.partition.specs.LeaveLaws.{sift-all}
+use Rattle.partition.specs.Laws.Leave.{sift-all}
 use mathlib.Core.Path.{refl}
 use borrow.Author.Needs.{needs}
 use Rattle.partition.proofs.rule2.Statement.{statement}

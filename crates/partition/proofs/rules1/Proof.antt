@@ -1,5 +1,5 @@
-use Rattle.partition.specs.JoinLaws.{rules1-more, rules1-all}
-use Rattle.partition.specs.HeldLaws.{cells-ranged}
+use Rattle.partition.specs.Laws.Join.{rules1-more, rules1-all}
+use Rattle.partition.specs.Laws.Held.{cells-ranged}
 use Rattle.partition.specs.Held.{HeldIds, HeldCells}
 use Rattle.model.specs.Groups.{Groups, rule1}
 use Rattle.model.specs.Cells.{Cell, cellInRange, touch26}

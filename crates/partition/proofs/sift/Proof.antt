@@ -1,4 +1,4 @@
-use Rattle.partition.specs.LeaveLaws.{sift-none, sift-drop, sift-keep, sift-back, back-more}
+use Rattle.partition.specs.Laws.Leave.{sift-none, sift-drop, sift-keep, sift-back, back-more}
 use Rattle.partition.specs.Held.{HeldRows, HeldCells, Sifted}
 use Rattle.model.specs.Groups.{Ids}
 use Rattle.model.specs.Cells.{Cell, same}

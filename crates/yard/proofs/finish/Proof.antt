@@ -8,9 +8,9 @@ use Rattle.model.specs.Cells.{touch26}
 use Rattle.model.specs.Occupancy.{playBatch}
 use Rattle.model.specs.Update.{mostCells}
 use Rattle.layout.specs.State.{idsLen, decode}
-use Rattle.yard.specs.Numbers.{ids-words, groups-words}
-use Rattle.yard.specs.StepLaws.{zeros-blank, finish-regroups}
-use Rattle.yard.specs.WriteLaws.{finish-written}
+use Rattle.yard.specs.Laws.Numbers.{ids-words, groups-words}
+use Rattle.yard.specs.Laws.Steps.{zeros-blank, finish-regroups}
+use Rattle.yard.specs.Laws.Writing.{finish-written}
 use borrow.Author.Needs.{needs}
 use Rattle.yard.proofs.finish.Statement.{statement}
 use Rattle.yard.proofs.finish.Tie as tie

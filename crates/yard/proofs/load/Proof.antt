@@ -1,5 +1,5 @@
 -- `load` meets its contract.
-use Rattle.yard.specs.LongerLaws.{part-slice, part-fits}
+use Rattle.yard.specs.Laws.Longer.{part-slice, part-fits}
 use Rattle.table.specs.Moves.{over}
 use mathlib.Core.Path.{ap, _∙_}
 use borrow.Author.Needs.{needs}

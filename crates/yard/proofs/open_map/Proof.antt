@@ -1,9 +1,9 @@
 -- `open_map` meets its contract.
 use native.Mathlib.Omega.{arith}
 use mathlib.Core.Path.{refl, _∙_}
-use Rattle.yard.specs.Numbers.{entities-at, cells-at, occupied-at, entities-words, cells-words}
-use Rattle.yard.specs.KnownLaws.{cells-within, occupied-within, header-within}
-use Rattle.yard.specs.StepLaws.{entities-loaded, cells-loaded, crowd-room, map-opened}
+use Rattle.yard.specs.Laws.Numbers.{entities-at, cells-at, occupied-at, entities-words, cells-words}
+use Rattle.yard.specs.Laws.Known.{cells-within, occupied-within, header-within}
+use Rattle.yard.specs.Laws.Steps.{entities-loaded, cells-loaded, crowd-room, map-opened}
 use borrow.Author.Needs.{needs}
 use Rattle.yard.proofs.open_map.Statement.{statement}
 use Rattle.yard.proofs.open_map.Tie as tie

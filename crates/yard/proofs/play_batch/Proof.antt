@@ -5,7 +5,7 @@ use lib.ListN.{take}
 use Rattle.model.specs.Lists.{each, run}
 use Rattle.model.specs.Cells.{touch26}
 use Rattle.model.specs.Occupancy.{remove, play}
-use Rattle.yard.specs.PlayLaws.{batch-stop, batch-then}
+use Rattle.yard.specs.Laws.Playing.{batch-stop, batch-then}
 use Rattle.yard.proofs.play_batch.Statement.{statement}
 use Rattle.yard.proofs.play_batch.Tie as tie
 

@@ -9,9 +9,9 @@ use Rattle.model.specs.Lists.{all, each}
 use Rattle.model.specs.Cells.{Cell, cellInRange}
 use Rattle.model.specs.Occupancy.{Occupancy, moveTo}
 use Rattle.batch.specs.Words.{movesIn}
-use Rattle.batch.specs.WordLaws.{movesLeft, moves-start}
+use Rattle.batch.specs.Laws.Words.{movesLeft, moves-start}
 use Rattle.yard.specs.Playing.{Ready, Going, inRange, toMove}
-use Rattle.yard.specs.PlayLaws.{ready-enter, ready-leave, going-start, going-at, going-stop, going-next, going-end, eventsLeft, events-start, events-step, events-end, range-step}
+use Rattle.yard.specs.Laws.Playing.{ready-enter, ready-leave, going-start, going-at, going-stop, going-next, going-end, eventsLeft, events-start, events-step, events-end, range-step}
 use borrow.Author.Needs.{needs}
 use Rattle.yard.proofs.play_moves.Statement.{statement}
 use Rattle.yard.proofs.play_moves.Tie as tie

@@ -8,7 +8,7 @@ use Rattle.model.specs.Lists.{each}
 use Rattle.model.specs.Cells.{Cell}
 use Rattle.model.specs.Occupancy.{Occupancy, remove}
 use Rattle.yard.specs.Playing.{Ready, Going}
-use Rattle.yard.specs.PlayLaws.{ready-leave, going-start, going-at, going-stop, going-next, going-end, removalsLeft, removals-step, removals-end}
+use Rattle.yard.specs.Laws.Playing.{ready-leave, going-start, going-at, going-stop, going-next, going-end, removalsLeft, removals-step, removals-end}
 use borrow.Author.Needs.{needs}
 use Rattle.yard.proofs.play_removals.Statement.{statement}
 use Rattle.yard.proofs.play_removals.Tie as tie

@@ -5,11 +5,11 @@ use lib.ListN.{length}
 use Rattle.model.specs.Cells.{touch26}
 use Rattle.model.specs.Groups.{regroup}
 use Rattle.layout.specs.State.{decode, nextId}
-use Rattle.layout.specs.Lengths.{ids-room}
-use Rattle.partition.specs.HeldLaws.{plain}
-use Rattle.yard.specs.Numbers.{ids-at, groups-at, ids-words}
-use Rattle.yard.specs.KnownLaws.{groups-within, header-within}
-use Rattle.yard.specs.StepLaws.{regroup-ready}
+use Rattle.layout.specs.Laws.Lengths.{ids-room}
+use Rattle.partition.specs.Laws.Held.{plain}
+use Rattle.yard.specs.Laws.Numbers.{ids-at, groups-at, ids-words}
+use Rattle.yard.specs.Laws.Known.{groups-within, header-within}
+use Rattle.yard.specs.Laws.Steps.{regroup-ready}
 use borrow.Author.Needs.{needs}
 use Rattle.yard.proofs.regroup_state.Statement.{statement}
 use Rattle.yard.proofs.regroup_state.Tie as tie

@@ -6,9 +6,9 @@ use Rattle.model.specs.Cells.{touch26}
 use Rattle.model.specs.Update.{update}
 use Rattle.layout.specs.State.{decode, nextId}
 use Rattle.batch.specs.Words.{batchOf, early}
-use Rattle.yard.specs.KnownLaws.{header-within}
+use Rattle.yard.specs.Laws.Known.{header-within}
 use Rattle.yard.specs.Update.{done}
-use Rattle.yard.specs.AnswerLaws.{short-answer, batch-fits, wild-answer, state-known, rest-answer, early-answer}
+use Rattle.yard.specs.Laws.Answers.{short-answer, batch-fits, wild-answer, state-known, rest-answer, early-answer}
 use borrow.Author.Needs.{needs}
 use Rattle.yard.proofs.update.Statement.{statement}
 use Rattle.yard.proofs.update.Tie as tie

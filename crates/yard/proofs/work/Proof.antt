@@ -6,9 +6,9 @@ use lib.ListN.{replicate, length-replicate}
 use Rattle.model.specs.Occupancy.{occupied, startBatch}
 use Rattle.layout.specs.State.{decode, nextId}
 use Rattle.batch.specs.Words.{batchOf}
-use Rattle.yard.specs.Numbers.{entities-words, cells-words, net-words}
-use Rattle.yard.specs.StepLaws.{zeros-blank, work-ready}
-use Rattle.yard.specs.AnswerLaws.{early-ranged, broken-answer, can-finish, done-answer}
+use Rattle.yard.specs.Laws.Numbers.{entities-words, cells-words, net-words}
+use Rattle.yard.specs.Laws.Steps.{zeros-blank, work-ready}
+use Rattle.yard.specs.Laws.Answers.{early-ranged, broken-answer, can-finish, done-answer}
 use borrow.Author.Needs.{needs}
 use Rattle.yard.proofs.work.Statement.{statement}
 use Rattle.yard.proofs.work.Tie as tie

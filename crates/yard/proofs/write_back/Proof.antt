@@ -1,8 +1,8 @@
 -- `write_back` meets its contract.
 use native.Mathlib.Omega.{arith}
 use mathlib.Core.Path.{_∙_}
-use Rattle.yard.specs.Numbers.{ids-at, groups-at, state-ends, ids-words, groups-words}
-use Rattle.yard.specs.WriteLaws.{back-written}
+use Rattle.yard.specs.Laws.Numbers.{ids-at, groups-at, state-ends, ids-words, groups-words}
+use Rattle.yard.specs.Laws.Writing.{back-written}
 use Rattle.yard.proofs.write_back.Statement.{statement}
 use Rattle.yard.proofs.write_back.Tie as tie
 

@@ -1,8 +1,8 @@
 -- `write_front` meets its contract.
 use native.Mathlib.Omega.{arith}
 use mathlib.Core.Path.{_∙_}
-use Rattle.yard.specs.Numbers.{entities-at, cells-at, occupied-at, emptied-at, state-ends, entities-words, cells-words, net-words}
-use Rattle.yard.specs.WriteLaws.{front-written}
+use Rattle.yard.specs.Laws.Numbers.{entities-at, cells-at, occupied-at, emptied-at, state-ends, entities-words, cells-words, net-words}
+use Rattle.yard.specs.Laws.Writing.{front-written}
 use Rattle.yard.proofs.write_front.Statement.{statement}
 use Rattle.yard.proofs.write_front.Tie as tie
 

@@ -2,7 +2,7 @@
 use borrow.Author.Needs.{needs}
 use mathlib.Core.Path.{sym, ap, _∙_}
 use native.Mathlib.Omega.{arith}
-use Rattle.script.specs.DecimalLaws.{decimal-small, decimal-more, length-small, length-more}
+use Rattle.script.specs.Laws.Decimal.{decimal-small, decimal-more, length-small, length-more}
 use Rattle.script.proofs.Putting.{then}
 use Prim.Native.Nat.{ℕ, _/_, _≤_, _<_}
 use mathlib.Core.List.{[], _∷_, _++_}

@@ -1,6 +1,6 @@
 -- A word has at most twenty digits.
 use native.Mathlib.Omega.{arith}
-use Rattle.script.specs.DecimalLaws.{decimal-word}
+use Rattle.script.specs.Laws.Decimal.{decimal-word}
 use borrow.Author.Needs.{needs}
 use Rattle.script.proofs.lines.put_number.Statement.{statement}
 use Rattle.script.proofs.lines.put_number.Tie as tie

@@ -2,7 +2,7 @@
 use mathlib.Core.Path.{sym, ap, _∙_}
 use native.Mathlib.Omega.{arith}
 use Rattle.script.proofs.Putting.{then}
-use Rattle.script.specs.DecimalLaws.{signed-low, signed-high}
+use Rattle.script.specs.Laws.Decimal.{signed-low, signed-high}
 use Rattle.script.specs.Lines.{put}
 use borrow.Author.Needs.{needs}
 use Rattle.script.proofs.lines.put_signed.Statement.{statement}

@@ -1,0 +1,135 @@
+-- The answers of the list questions, by what is read of the words.
+use Prim.Native.Nat.{ℕ, suc}
+use native.Mathlib.Omega.{arith}
+use mathlib.Core.Path.{_≡_, refl, ap, _∙_}
+use mathlib.Core.Bool.{Bool, true, false, cond, not}
+use mathlib.Core.List.{List, [], _∷_}
+use lib.Dec.{eqb}
+use lib.ListN.{length}
+use borrow.Author.Tests.{ne-eqb}
+use Rattle.component.specs.declared.CellId.{CellId}
+use Rattle.component.specs.Stored.{stored}
+use Rattle.model.specs.Lists.{any, has, keep, keys}
+use Rattle.model.specs.Cells.{Cell, same}
+use Rattle.model.specs.Occupancy.{occupied}
+use Rattle.model.specs.Flood.{flood}
+use Rattle.model.specs.Questions.{Listed, idList, nearby, cube}
+use Rattle.model.specs.Questions as question
+use Rattle.model.specs.Laws.Occupied.{occupied-stands}
+use Rattle.model.specs.Cells.{touch26}
+use Rattle.layout.specs.Rows.{entitiesIn, cellsIn, netIn, groupsIn}
+use Rattle.layout.specs.State.{decode, entityWords, cellWords, occupiedWords, emptiedWords, groupWords, entityCount, cellCount, occupiedCount, emptiedCount, groupCount}
+use Rattle.ask.specs.declared.Listing.{Listing}
+use Rattle.ask.specs.declared.Flooding.{Flooding}
+use Rattle.ask.specs.declared.Depth.{Depth}
+use Rattle.ask.specs.Answers.{refusal, cellRefusal, listedNumbers, listedCells, there, flooded, depthOf, idsOf, occupiedOf, emptiedOf, entitiesOf, nearbyOf, cubeOf, floodOf}
+use Rattle.ask.specs.Parts.{having, standingIn, anyOf}
+use Rattle.ask.specs.Laws.Ways.{Sure, refused-way, answered-way}
+use Rattle.ask.specs.Laws.Words.{ok}
+
+module _ (w answer : List ℕ) (no : ℕ) (e : no ≡ refusal w) where
+  abbrev refuse : ℕ → Listing × List ℕ
+  refuse k = (Listing.Refused k, answer)
+
+  pub ids-refused : (no ≡ 0 → ⊥) → (Listing.Refused no, answer) ≡ idsOf w answer
+  unfolding idsOf
+  ids-refused h = refused-way no (refusal w) refuse (listedNumbers (there (idList (decode w))) answer) e h
+
+  pub ids-answered : no ≡ 0 → (n : ℕ) (rows : List ℕ) (a : Listing × List ℕ) → n ≡ groupCount w → rows ≡ groupWords w → a ≡ listedNumbers (there (keys (groupsIn n rows))) answer → a ≡ idsOf w answer
+  unfolding idsOf decode
+  ids-answered h n rows a p q f =
+      answered-way no (refusal w) refuse (listedNumbers (there (idList (decode w))) answer) e h a (f ∙ (λ i. listedNumbers (there (keys (groupsIn (p i) (q i)))) answer))
+
+  pub occupied-refused : (no ≡ 0 → ⊥) → (Listing.Refused no, answer) ≡ occupiedOf w answer
+  unfolding occupiedOf
+  occupied-refused h = refused-way no (refusal w) refuse (listedCells (there (decode w .occupancy .newlyOccupied)) answer) e h
+
+  pub occupied-answered : no ≡ 0 → (n : ℕ) (rows : List ℕ) (a : Listing × List ℕ) → n ≡ occupiedCount w → rows ≡ occupiedWords w → a ≡ listedCells (there (netIn n rows)) answer → a ≡ occupiedOf w answer
+  unfolding occupiedOf decode
+  occupied-answered h n rows a p q f =
+      answered-way no (refusal w) refuse (listedCells (there (decode w .occupancy .newlyOccupied)) answer) e h a (f ∙ (λ i. listedCells (there (netIn (p i) (q i))) answer))
+
+  pub emptied-refused : (no ≡ 0 → ⊥) → (Listing.Refused no, answer) ≡ emptiedOf w answer
+  unfolding emptiedOf
+  emptied-refused h = refused-way no (refusal w) refuse (listedCells (there (decode w .occupancy .newlyEmptied)) answer) e h
+
+  pub emptied-answered : no ≡ 0 → (n : ℕ) (rows : List ℕ) (a : Listing × List ℕ) → n ≡ emptiedCount w → rows ≡ emptiedWords w → a ≡ listedCells (there (netIn n rows)) answer → a ≡ emptiedOf w answer
+  unfolding emptiedOf decode
+  emptied-answered h n rows a p q f =
+      answered-way no (refusal w) refuse (listedCells (there (decode w .occupancy .newlyEmptied)) answer) e h a (f ∙ (λ i. listedCells (there (netIn (p i) (q i))) answer))
+
+-- A list of entities holds any exactly if some entity passes.
+some-kept : (p : ℕ × Cell → Bool) (t : List (ℕ × Cell)) → not (eqb (length (keys (keep p t))) 0) ≡ any p t
+some-kept p [] = refl
+some-kept p (x ∷ t) = go (p x) (some-kept p t)
+  where
+    go : (b : Bool) → not (eqb (length (keys (keep p t))) 0) ≡ any p t → not (eqb (length (keys (cond b (x ∷ keep p t) (keep p t)))) 0) ≡ mathlib.Core.Bool._||_ b (any p t)
+    go true e = ap not (ne-eqb (suc (length (keys (keep p t)))) 0 (λ z. omega arith))
+    go false e = e
+
+-- The entities that stand in a cell are what the question asks for.
+entities-asked : (w : List ℕ) → Sure w → (c : Cell) → anyOf (standingIn (decode w .occupancy .entities) c) ≡ question.entitiesIn (decode w) c
+entities-asked w sure c =
+    let f : not (eqb (length (standingIn (decode w .occupancy .entities) c)) 0) ≡ has same (occupied (decode w .occupancy)) c =
+    some-kept (λ (p : ℕ × Cell). same c (p .1)) (decode w .occupancy .entities) ∙ occupied-stands touch26 (decode w .occupancy) (ok w sure .sound) c in
+    λ i. record { found = f i; list = standingIn (decode w .occupancy .entities) c }
+
+module _ (w : List ℕ) (c : CellId) (answer : List ℕ) (no : ℕ) (e : no ≡ cellRefusal w c) where
+  abbrev refuse-cell : ℕ → Listing × List ℕ
+  refuse-cell k = (Listing.Refused k, answer)
+
+  pub entities-refused : (no ≡ 0 → ⊥) → (Listing.Refused no, answer) ≡ entitiesOf w c answer
+  unfolding entitiesOf
+  entities-refused h = refused-way no (cellRefusal w c) refuse-cell (listedNumbers (question.entitiesIn (decode w) (stored c)) answer) e h
+
+  entities-read : (n : ℕ) (rows : List ℕ) → n ≡ entityCount w → rows ≡ entityWords w → entitiesIn n rows ≡ decode w .occupancy .entities
+  unfolding decode
+  entities-read n rows p q = λ i. entitiesIn (p i) (q i)
+
+  pub entities-answered : no ≡ 0 → Sure w → (n : ℕ) (rows : List ℕ) (d : Cell) (a : Listing × List ℕ) → n ≡ entityCount w → rows ≡ entityWords w → d ≡ stored c
+      → a ≡ listedNumbers (anyOf (standingIn (entitiesIn n rows) d)) answer → a ≡ entitiesOf w c answer
+  unfolding entitiesOf
+  entities-answered h sure n rows d a p q s f =
+      answered-way no (cellRefusal w c) refuse-cell (listedNumbers (question.entitiesIn (decode w) (stored c)) answer) e h a
+      (f ∙ (λ i. listedNumbers (anyOf (standingIn (entities-read n rows p q i) (s i))) answer)
+      ∙ ap (λ (l : Listed ℕ). listedNumbers l answer) (entities-asked w sure (stored c)))
+
+  pub nearby-refused : (no ≡ 0 → ⊥) → (Listing.Refused no, answer) ≡ nearbyOf w c answer
+  unfolding nearbyOf
+  nearby-refused h = refused-way no (cellRefusal w c) refuse-cell (listedCells (nearby (decode w) (stored c)) answer) e h
+
+  pub nearby-answered : no ≡ 0 → (n : ℕ) (rows : List ℕ) (d : Cell) (a : Listing × List ℕ) → n ≡ cellCount w → rows ≡ cellWords w → d ≡ stored c
+      → a ≡ listedCells (nearby (having (cellsIn n rows)) d) answer → a ≡ nearbyOf w c answer
+  unfolding nearbyOf decode
+  nearby-answered h n rows d a p q s f =
+      answered-way no (cellRefusal w c) refuse-cell (listedCells (nearby (decode w) (stored c)) answer) e h a
+      (f ∙ (λ i. listedCells (nearby (having (cellsIn (p i) (q i))) (s i)) answer))
+
+  pub cube-refused : (r : ℕ) → (no ≡ 0 → ⊥) → (Listing.Refused no, answer) ≡ cubeOf w c r answer
+  unfolding cubeOf
+  cube-refused r h = refused-way no (cellRefusal w c) refuse-cell (listedCells (cube (decode w) (stored c) r) answer) e h
+
+  pub cube-answered : (r : ℕ) → no ≡ 0 → (n : ℕ) (rows : List ℕ) (d : Cell) (a : Listing × List ℕ) → n ≡ cellCount w → rows ≡ cellWords w → d ≡ stored c
+      → a ≡ listedCells (cube (having (cellsIn n rows)) d r) answer → a ≡ cubeOf w c r answer
+  unfolding cubeOf decode
+  cube-answered r h n rows d a p q s f =
+      answered-way no (cellRefusal w c) refuse-cell (listedCells (cube (decode w) (stored c) r) answer) e h a
+      (f ∙ (λ i. listedCells (cube (having (cellsIn (p i) (q i))) (s i) r) answer))
+
+  abbrev refuse-flood : ℕ → Flooding × List ℕ
+  refuse-flood k = (Flooding.Refused k, answer)
+
+  module _ (depth : Depth) (budget : ℕ) where
+    pub flood-refused : (no ≡ 0 → ⊥) → (Flooding.Refused no, answer) ≡ floodOf w c depth budget answer
+    unfolding floodOf
+    flood-refused h =
+        refused-way no (cellRefusal w c) refuse-flood
+        (flooded (has same (occupied (decode w .occupancy)) (stored c)) (flood (decode w .occupancy) (stored c) (depthOf depth) budget) answer) e h
+
+    pub flood-answered : no ≡ 0 → (n : ℕ) (rows : List ℕ) (d : Cell) (a : Flooding × List ℕ) → n ≡ cellCount w → rows ≡ cellWords w → d ≡ stored c
+        → a ≡ flooded (has same (keys (cellsIn n rows)) d) (flood (having (cellsIn n rows) .occupancy) d (depthOf depth) budget) answer → a ≡ floodOf w c depth budget answer
+    unfolding floodOf decode
+    flood-answered h n rows d a p q s f =
+        answered-way no (cellRefusal w c) refuse-flood
+        (flooded (has same (occupied (decode w .occupancy)) (stored c)) (flood (decode w .occupancy) (stored c) (depthOf depth) budget) answer) e h a
+        (f ∙ (λ i. flooded (has same (keys (cellsIn (p i) (q i))) (s i)) (flood (having (cellsIn (p i) (q i)) .occupancy) (s i) (depthOf depth) budget) answer))

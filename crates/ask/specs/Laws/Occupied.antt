@@ -1,0 +1,92 @@
+-- A cell is looked up among the occupied cells, and what its row has.
+use Prim.Native.Nat.{ℕ, _+_, _*_, _≤_, _<_}
+use native.Mathlib.Omega.{arith}
+use mathlib.Core.Path.{_≡_, sym, ap, _∙_, subst}
+use mathlib.Core.Bool.{Bool, true, false, cond}
+use mathlib.Core.List.{List, [], _∷_, _++_, List·Memᴰ as Mem, Memᴰ·cast as mem-cast}
+use lib.ListN.{length, take, drop}
+use lib.Seq.{take-append-seam}
+use Rattle.model.specs.Lists.{has, keys, gather}
+use Rattle.model.specs.Cells.{Cell, same, below}
+use Rattle.model.specs.Flood.{listOf}
+use Rattle.model.specs.Questions.{nearby}
+use Rattle.model.specs.Laws.Tests.{true-of, false-of}
+use Rattle.model.specs.Laws.Orders.{cells}
+use Rattle.model.specs.Laws.Members.{has-of, hasnt-of}
+use Rattle.model.specs.Laws.Sorted.{Asc}
+use Rattle.table.specs.declared.Place.{Place}
+use Rattle.table.specs.declared.Place.the-variants.{Found, Missing}
+use Rattle.table.specs.Rows.{cell, placed, placeOf, table4}
+use Rattle.table.specs.Laws.Kinds.{cell-lawful}
+use Rattle.table.specs.Laws.Places.{found-within, missing-key}
+use Rattle.table.specs.Laws.Answers.{found-below, found-is}
+use Rattle.table.specs.Moves.{over}
+use Rattle.map.specs.Rows.{rowCell, rowFor}
+use Rattle.map.specs.Standing.{Cells}
+use Rattle.map.specs.Answers.{answerWords, filled, NearbyAsked, Nearby}
+use Rattle.map.specs.Laws.Lines.{getD-mem}
+use Rattle.map.specs.Laws.Listing.{list-length, numbers-few}
+use Rattle.map.specs.Laws.Filling.{words-long}
+use Rattle.map.specs.Laws.Reads.{cells-keys, row-for, row-list}
+use Rattle.ask.specs.Parts.{having}
+
+-- The words that are filled with cells begin with the cells' words.
+pub filled-take : (s : List ℕ) (l : List Cell) → take (4 * length l) (filled s l) ≡ gather answerWords l
+unfolding filled over
+filled-take s l =
+    ap (λ (m : ℕ). take m (gather answerWords l ++ drop (0 + length (gather answerWords l)) s)) (sym (words-long l))
+    ∙ take-append-seam (gather answerWords l) (drop (0 + length (gather answerWords l)) s)
+
+module _ (words : List ℕ) (n : ℕ) (t : List (Cell × List Cell)) (k : Cells words n t) where
+  module _ (c : Cell) (i : ℕ) (e : Found i ≡ placeOf below (keys (table4 30 n words)) c) where
+    found-in : Mem c (keys t)
+    found-in =
+        subst (λ (l : List Cell). Mem c l) (cells-keys words n t k)
+        (mem-cast (sym (found-is cell cell-lawful 30 n words c i c e)) (getD-mem (keys (table4 30 n words)) i c (found-within below c (keys (table4 30 n words)) i e)))
+
+    -- A cell that is found is occupied.
+    pub found-has : has same (keys t) c ≡ true
+    found-has = true-of (has same (keys t) c) (has-of cells found-in)
+
+    -- Its row is there.
+    pub found-there : i < n
+    found-there = found-below cell cell-lawful 30 n words c i e
+
+    -- Its row has it.
+    pub found-cell : rowCell words i ≡ c
+    unfolding rowFor
+    found-cell = ap (λ (p : Place). rowCell words (placed p)) e ∙ row-for words n t k c found-in .1
+
+    -- The list of its row is short.
+    list-few : length (listOf t (rowCell words i)) ≤ 26
+    list-few =
+        let h = found-there in
+        omega (arith, ap length (row-list words n t k i h), list-length words i, numbers-few words i (omega (arith, k .fits)))
+
+    -- What is asked to write it and its list.
+    pub nearby-asked : (answer : List ℕ) → 108 ≤ length answer → NearbyAsked words n i answer
+    nearby-asked answer h = record { table = t; cells = k; there = found-there; space = omega (arith, list-few) }
+
+    module _ (answer answer′ : List ℕ) (r : ℕ) (w : Nearby words i answer r answer′ t) where
+      -- It and its list are few.
+      pub nearby-few : 4 * r ≤ 108
+      nearby-few = omega (arith, w .number, list-few)
+
+      -- They are what the question asks for.
+      pub nearby-words : take (4 * r) answer′ ≡ gather answerWords (nearby (having t) c .list)
+      nearby-words =
+          (λ j. take (4 * w .number j) (w .written j))
+          ∙ filled-take answer (rowCell words i ∷ listOf t (rowCell words i))
+          ∙ ap (λ (d : Cell). gather answerWords (d ∷ listOf t d)) found-cell
+          ∙ ap (λ (b : Bool). gather answerWords (cond b (c ∷ listOf t c) [])) (sym found-has)
+
+  -- A cell that is missing is not occupied.
+  pub missing-has : (c : Cell) (i : ℕ) → Missing i ≡ placeOf below (keys (table4 30 n words)) c → has same (keys t) c ≡ false
+  missing-has c i e =
+      false-of (has same (keys t) c)
+      (hasnt-of cells c (keys t) (λ m.
+      missing-key cells c (keys (table4 30 n words)) i (subst (Asc below) (sym (cells-keys words n t k)) (k .asc)) e (subst (λ (l : List Cell). Mem c l) (sym (cells-keys words n t k)) m)))
+
+  -- Then its list is empty.
+  pub missing-words : (c : Cell) (i : ℕ) → Missing i ≡ placeOf below (keys (table4 30 n words)) c → [] ≡ gather answerWords (nearby (having t) c .list)
+  missing-words c i e = ap (λ (b : Bool). gather answerWords (cond b (c ∷ listOf t c) [])) (sym (missing-has c i e))

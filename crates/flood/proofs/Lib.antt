@@ -1,3 +1,0 @@
-pub mod Following
-pub mod Marking
-pub mod Wave

@@ -1,0 +1,9 @@
+pub mod Numbers
+pub mod Zeros
+pub mod Rows
+pub mod Images
+pub mod Lengths
+pub mod Parts
+pub mod Fitting
+pub mod Standing
+pub mod Orderly

@@ -1,0 +1,77 @@
+-- A consistent state fits into its words.
+use Prim.Native.Nat.{ℕ, _≤_}
+use native.Mathlib.Omega.{arith}
+use mathlib.Core.Path.{_≡_, sym, ap, _∙_, subst}
+use mathlib.Core.Bool.{true}
+use mathlib.Core.List.{List, List·Memᴰ as Mem}
+use lib.Dec.{T}
+use lib.ListN.{length}
+use Rattle.component.specs.Around.{around}
+use Rattle.component.specs.Adjacent.{hasRoom}
+use Rattle.component.specs.Laws.Adjacent.{range-room, room-above}
+use Rattle.component.specs.Laws.Neighbours.{around-one}
+use Rattle.component.specs.Touch.{touches}
+use Rattle.component.specs.Laws.Touch.{touching-in-list}
+use Rattle.model.specs.Lists.{values, ascending}
+use Rattle.model.specs.Cells.{Cell, below, cellInRange, touch26}
+use Rattle.model.specs.Occupancy.{occupied}
+use Rattle.model.specs.Groups.{Ids, records}
+use Rattle.model.specs.Update.{State, mostCells}
+use Rattle.model.specs.Consistent.{consistent}
+use Rattle.model.specs.Laws.Tests.{true-of}
+use Rattle.model.specs.Laws.Orders.{numbers, cells}
+use Rattle.model.specs.Laws.Members.{each-length, key-in, once-shorter}
+use Rattle.model.specs.Laws.Sorted.{ascending-length, ascending-out}
+use Rattle.model.specs.Laws.Tables.{keys-length}
+use Rattle.model.specs.Laws.Records.{records-keys}
+use Rattle.model.specs.Laws.Touching.{touching-26, touch26-touches}
+use Rattle.model.specs.Laws.Consistency.{Ok, ok-out}
+use Rattle.layout.specs.Facts.{Listed, Fits}
+
+-- There are no more group records than cells with an id.
+records-few : (ids : Ids) → length (records ids) ≤ length ids
+records-few ids =
+    let a = keys-length (records ids) in
+    let b = ap length (records-keys ids) in
+    omega (arith, ascending-length numbers (values ids), each-length (λ (p : Cell × ℕ). p .1) ids)
+
+module _ (s : State) (ok : Ok touch26 s) where
+  -- An occupied cell has room.
+  pub occupied-room : (c : Cell) → Mem c (occupied (s .occupancy)) → hasRoom 1 c ≡ true
+  occupied-room c m =
+      let k : Mem c (ascending below (values (s .occupancy .entities))) = subst (λ l. Mem c l) (ok .sound .cells) m in
+      range-room 1 c (omega arith) (true-of (cellInRange c) (ok .range-entities c (ascending-out cells (values (s .occupancy .entities)) k)))
+
+  list-listed : (p : Cell × List Cell) → Mem p (s .occupancy .lists) → Listed p
+  list-listed p m =
+      let exact = ok .sound .exact (p .0) (p .1) m in
+      let room : hasRoom 1 (p .0) ≡ true = occupied-room (p .0) (key-in m) in
+      let touching : (d : Cell) → Mem d (p .1) → touches (p .0) d ≡ true =
+      λ d k. sym (touch26-touches (p .0) d) ∙ true-of (touch26 (p .0) d) (exact .only k .1) in
+      record {
+        room = room;
+        touching = touching;
+        few = omega (
+          arith,
+          around-one (p .0),
+          once-shorter (exact .once) (around 1 (p .0)) (λ d k. touching-in-list (p .0) d (room-above 1 (p .0) room) (touching d k)),
+        );
+      }
+
+  ok-fits : Fits s
+  ok-fits =
+      let few : length (s .occupancy .lists) ≤ mostCells = omega (arith, keys-length (s .occupancy .lists), ok .few-cells) in
+      let ids : length (s .groups .ids) ≤ mostCells = omega (arith, keys-length (s .groups .ids), keys-length (s .occupancy .lists), ap length (ok .id-cells)) in
+      record {
+        entities = ok .few-entities;
+        cells = few;
+        newly-occupied = ok .few-occupied;
+        newly-emptied = ok .few-emptied;
+        ids = ids;
+        groups = omega (arith, records-few (s .groups .ids), ap length (ok .records-are));
+        lists = list-listed;
+      }
+
+-- A consistent state fits.
+pub consistent-fits : (s : State) → T (consistent touch26 s) → Fits s
+consistent-fits s t = ok-fits s (ok-out touch26 (touching-26 .flip) s t)

@@ -1,0 +1,147 @@
+-- Each table is read from its words as it was written, and its words are written as they were read.
+use Prim.Native.Nat.{ℕ, zero, suc, _+_, _-_, _*_, _≤_}
+use native.Mathlib.Nat.{mul-suc}
+use native.Mathlib.Omega.{arith}
+use mathlib.Core.Path.{_≡_, refl, sym, ap, _∙_, subst}
+use mathlib.Core.Bool.{true}
+use mathlib.Core.Logic.{⊎-elim}
+use mathlib.Core.List.{List, [], _++_, List·Memᴰ as Mem, List·Memᴰ·cases-cons as mem-cons, List·Memᴰ·not-nil as mem-nil}
+use lib.Dec.{T}
+use lib.ListN.{length, take, drop, replicate, length-drop}
+use lib.Seq.{length-take-le, drop-at}
+use Rattle.model.specs.Lists.{all, each, gather, values}
+use Rattle.model.specs.Cells.{Cell}
+use Rattle.model.specs.Laws.Tests.{T-true, true-of}
+use Rattle.model.specs.Laws.Members.{all-in, each-out, each-each, each-same, each-length}
+use Rattle.model.specs.Laws.Values.{value-out}
+use Rattle.table.specs.Rows.{Kind, number, cell, areZero, rowOf, tableOf, imageOf, areWide, table4}
+use Rattle.table.specs.Laws.Kinds.{Lawful, number-lawful, cell-lawful}
+use Rattle.table.specs.Laws.Words.{table-length, words-all}
+use Rattle.table.specs.Laws.Images.{are-zeros, words-length, image-length, table-of-image}
+use Rattle.layout.specs.Rows.{entityRow, entityOf, cellRow, cellOf, netRow, idRow, idOf, groupRow, groupOf, entitiesImage, cellsImage, netImage, idsImage, groupsImage, entitiesIn, cellsIn, netIn, idsIn, groupsIn}
+use Rattle.layout.specs.Points.{listTidy}
+use Rattle.layout.specs.Facts.{TableLaws, Any, Anyhow, Listed, Tidied}
+use Rattle.layout.specs.Laws.Zeros.{padded}
+use Rattle.layout.specs.Laws.Rows.{entity-written, id-written, group-written, net-written, list-length, cell-read, cell-written, list-tidy, rows-wide, cells-wide}
+
+-- The rows that are read have w words.
+table-wide : {K : Type 0} (kind : Kind K) (w n : ℕ) (s : List ℕ) → kind .size ≤ w → w * n ≤ length s → (p : K × List ℕ) → Mem p (tableOf kind w n s) → kind .size + length (p .1) ≡ w
+unfolding tableOf
+table-wide kind w zero s h l p m = absurd (mem-nil m)
+table-wide {K} kind w (suc n) s h l p m =
+    let q = mul-suc w n in
+    ⊎-elim
+    (λ e. ap (λ (r : K × List ℕ). kind .size + length (r .1)) e
+    ∙ omega (arith, length-drop (kind .size) (take w s), length-take-le w s (omega arith)))
+    (λ k. table-wide kind w n (drop w s) h (omega (arith, length-drop w s)) p k)
+    (mem-cons m)
+
+module _ {A K : Type 0} (kind : Kind K) (laws : Lawful kind) (w : ℕ) (wide : kind .size ≤ w)
+    (row : A → K × List ℕ) (of : K × List ℕ → A)
+    (Good : A → Type 0) (good : (a : A) → Good a → (of (row a) ≡ a) × (kind .size + length (row a .1) ≡ w))
+    (Fair : ℕ → List ℕ → Type 0)
+    (fair : (n : ℕ) (s : List ℕ) → Fair n s → (p : K × List ℕ) → Mem p (tableOf kind w n s) → kind .size + length (p .1) ≡ w → row (of p) ≡ p) where
+  all-wide : (t : List A) → ((a : A) → Mem a t → Good a) → areWide kind w (each row t) ≡ true
+  all-wide t g = rows-wide kind w row t (λ a m. good a (g a m) .1)
+
+  read-again : (len : ℕ) (t : List A) → ((a : A) → Mem a t → Good a) → each of (tableOf kind w (length t) (imageOf kind len (each row t))) ≡ t
+  read-again len t g =
+      ap (λ (n : ℕ). each of (tableOf kind w n (imageOf kind len (each row t)))) (sym (each-length row t))
+      ∙ ap (each of) (table-of-image kind laws w len (each row t) (all-wide t g))
+      ∙ each-each of row t
+      ∙ each-same (λ a. of (row a)) t (λ a m. good a (g a m) .0)
+
+  written-again : (n : ℕ) (s : List ℕ) → w * n ≤ length s → areZero (drop (w * n) s) ≡ true → Fair n s
+      → imageOf kind (length s) (each row (each of (tableOf kind w n s))) ≡ s
+  unfolding imageOf
+  written-again n s h z f =
+      let back : each row (each of (tableOf kind w n s)) ≡ tableOf kind w n s =
+      each-each row of (tableOf kind w n s)
+      ∙ each-same (λ p. row (of p)) (tableOf kind w n s) (λ p m. fair n s f p m (table-wide kind w n s wide h p m)) in
+      ap (imageOf kind (length s)) back
+      ∙ ap (λ (r : List ℕ). r ++ replicate (length s - length r) 0) (words-all kind w laws wide n s h)
+      ∙ ap (λ (m : ℕ). take (w * n) s ++ replicate (length s - m) 0) (length-take-le (w * n) s h)
+      ∙ padded (w * n) s (T-true z)
+
+  image-zeros : (len : ℕ) (t : List A) → ((a : A) → Mem a t → Good a) → areZero (drop (w * length t) (imageOf kind len (each row t))) ≡ true
+  unfolding imageOf
+  image-zeros len t g =
+      let r : List ℕ = gather (rowOf kind) (each row t) in
+      let e : length r ≡ w * length t =
+      words-length kind laws w (each row t) (all-wide t g) ∙ ap (λ (n : ℕ). w * n) (each-length row t) in
+      ap areZero (drop-at r (replicate (len - length r) 0) (w * length t) e) ∙ are-zeros (len - length r)
+
+  image-long : (len : ℕ) (t : List A) → ((a : A) → Mem a t → Good a) → w * length t ≤ len → length (imageOf kind len (each row t)) ≡ len
+  image-long len t g h =
+      image-length kind laws w len (each row t) (all-wide t g) (omega (arith, ap (λ (n : ℕ). w * n) (each-length row t)))
+
+  image-none : (len : ℕ) → imageOf kind len (each row []) ≡ replicate len 0
+  unfolding imageOf
+  image-none len = let e : len - 0 ≡ len = omega arith in ap (λ (n : ℕ). replicate n 0) e
+
+  -- The laws of a table from those of its rows.
+  pub table-laws : TableLaws w (λ len t. imageOf kind len (each row t)) (λ n s. each of (tableOf kind w n s)) Good Fair
+  table-laws =
+      record {
+        read = read-again;
+        written = written-again;
+        long = image-long;
+        zeros = image-zeros;
+        counted = λ n s. each-length of (tableOf kind w n s) ∙ table-length kind w n s;
+        none = image-none;
+      }
+
+-- The table of entities.
+pub entities-laws : TableLaws 5 entitiesImage entitiesIn Any Anyhow
+unfolding entitiesImage entitiesIn
+entities-laws =
+    table-laws number number-lawful 5 (omega arith) entityRow entityOf Any (λ p g. (refl, refl)) Anyhow
+    (λ n s f p m e. entity-written (p .0) (p .1) (omega arith))
+
+-- The table of a net list.
+pub net-laws : TableLaws 4 netImage netIn Any Anyhow
+unfolding netImage netIn
+net-laws =
+    table-laws cell cell-lawful 4 (omega arith) netRow (λ (p : Cell × List ℕ). p .0) Any (λ p g. (refl, refl)) Anyhow
+    (λ n s f p m e. net-written (p .0) (p .1) (omega arith))
+
+-- The table of cells with an id.
+pub ids-laws : TableLaws 5 idsImage idsIn Any Anyhow
+unfolding idsImage idsIn
+ids-laws =
+    table-laws cell cell-lawful 5 (omega arith) idRow idOf Any (λ p g. (refl, refl)) Anyhow
+    (λ n s f p m e. id-written (p .0) (p .1) (omega arith))
+
+-- The table of groups.
+pub groups-laws : TableLaws 9 groupsImage groupsIn Any Anyhow
+unfolding groupsImage groupsIn
+groups-laws =
+    table-laws number number-lawful 9 (omega arith) groupRow groupOf Any (λ p g. (refl, refl)) Anyhow
+    (λ n s f p m e. group-written (p .0) (p .1) (omega arith))
+
+-- The table of occupied cells, with their lists.
+pub cells-laws : TableLaws 30 cellsImage cellsIn Listed Tidied
+unfolding cellsImage cellsIn
+cells-laws =
+    table-laws cell cell-lawful 30 (omega arith) cellRow cellOf Listed
+    (λ p g. (cell-read (p .0) (p .1) (g .room) (g .touching), omega (arith, list-length (p .0) (p .1) (g .few)))) Tidied
+    (λ n s f p m e. let t = f p m in cell-written (p .0) (p .1) (omega arith) (t .0) (t .1))
+
+-- The lists that are written are tidy.
+pub lists-tidy : (len : ℕ) (t : List (Cell × List Cell)) → ((p : Cell × List Cell) → Mem p t → Listed p)
+    → all listTidy (values (table4 30 (length t) (cellsImage len t))) ≡ true
+unfolding cellsImage
+lists-tidy len t g =
+    let rows : List (Cell × List ℕ) = each cellRow t in
+    let back : table4 30 (length t) (imageOf cell len rows) ≡ rows =
+    ap (λ (n : ℕ). table4 30 n (imageOf cell len rows)) (sym (each-length cellRow t))
+    ∙ table-of-image cell cell-lawful 30 len rows (cells-wide t (λ p m. g p m .few)) in
+    ap (λ (u : List (Cell × List ℕ)). all listTidy (values u)) back
+    ∙ true-of (all listTidy (values rows)) (all-in listTidy (values rows) tidied)
+  where
+    tidied : (ws : List ℕ) → Mem ws (values (each cellRow t)) → T (listTidy ws)
+    tidied ws m =
+        let v = value-out (each cellRow t) m in
+        let r = each-out cellRow t (v .1) in
+        subst (λ u. T (listTidy u)) (sym (ap (λ (q : Cell × List ℕ). q .1) (r .2)))
+        (T-true (list-tidy (r .0 .0) (r .0 .1) (g (r .0) (r .1) .touching)))

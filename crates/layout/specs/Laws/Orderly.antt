@@ -1,0 +1,155 @@
+-- The eight points of consistent words say that the tables are tidy and that the state they stand for is consistent.
+use Prim.Native.Nat.{ℕ}
+use mathlib.Core.Path.{_≡_}
+use mathlib.Core.Bool.{Bool, true, _&&_}
+use mathlib.Core.List.{List}
+use lib.Dec.{eqb, leb}
+use lib.ListN.{getD}
+use borrow.Author.Tests.{eqb-true, eq-eqb}
+use Rattle.component.specs.Laws.Tests.{both}
+use Rattle.model.specs.Lists.{all, values}
+use Rattle.model.specs.Cells.{touch26}
+use Rattle.model.specs.Update.{State, mostEntities, mostCells}
+use Rattle.model.specs.Consistent.{withinNumber, cellsExact, listsExact, idsShared, recordsExact, idsBelowNext, coordinatesInRange, netsInOrder}
+use Rattle.table.specs.Rows.{table4}
+use Rattle.layout.specs.State.{decode, entityWords, cellWords, occupiedWords, emptiedWords, idWords, groupWords, entityCount, cellCount, occupiedCount, emptiedCount, idCount, groupCount}
+use Rattle.layout.specs.Points.{tidy, listTidy, point1, point2, point3, point4, point5, point6, point7, point8, consistentWords}
+use Rattle.layout.specs.Facts.{Orderly}
+
+-- The two parts of a conjunction that holds.
+and-in : (a b : Bool) → a ≡ true → b ≡ true → (a && b) ≡ true
+and-in a b e f = λ i. e i && f i
+
+module _ (w : List ℕ) where
+  abbrev s : State
+  s = decode w
+
+  -- Points 2 to 8, each with what follows it.
+  abbrev from7 : Bool
+  from7 = point7 w && point8 w
+
+  abbrev from6 : Bool
+  from6 = point6 w && from7
+
+  abbrev from5 : Bool
+  from5 = point5 w && from6
+
+  abbrev from4 : Bool
+  from4 = point4 w && from5
+
+  abbrev from3 : Bool
+  from3 = point3 w && from4
+
+  abbrev from2 : Bool
+  from2 = point2 w && from3
+
+  -- The points of the state, each with what follows it.
+  abbrev of7 : Bool
+  of7 = coordinatesInRange s && netsInOrder s
+
+  abbrev of6 : Bool
+  of6 = idsBelowNext s && of7
+
+  abbrev of5 : Bool
+  of5 = recordsExact s && of6
+
+  abbrev of4 : Bool
+  of4 = idsShared touch26 s && of5
+
+  abbrev of3 : Bool
+  of3 = listsExact touch26 s && of4
+
+  abbrev of2 : Bool
+  of2 = cellsExact s && of3
+
+  -- The parts of the points of words.
+  abbrev last-ok : Bool
+  last-ok = eqb (getD w 7 0) 0
+
+  abbrev ents-ok : Bool
+  ents-ok = tidy 5 mostEntities (entityCount w) (entityWords w)
+
+  abbrev few-ok : Bool
+  few-ok = leb (cellCount w) mostCells
+
+  abbrev cells-ok : Bool
+  cells-ok = tidy 30 mostCells (cellCount w) (cellWords w)
+
+  abbrev ids-ok : Bool
+  ids-ok = tidy 5 mostCells (idCount w) (idWords w)
+
+  abbrev lists-ok : Bool
+  lists-ok = all listTidy (values (table4 30 (cellCount w) (cellWords w)))
+
+  abbrev groups-ok : Bool
+  groups-ok = tidy 9 mostCells (groupCount w) (groupWords w)
+
+  abbrev occs-ok : Bool
+  occs-ok = tidy 4 mostCells (occupiedCount w) (occupiedWords w)
+
+  abbrev emps-ok : Bool
+  emps-ok = tidy 4 mostCells (emptiedCount w) (emptiedWords w)
+
+  -- Consistent words are orderly.
+  pub orderly-out : consistentWords w ≡ true → Orderly w
+  unfolding consistentWords point1 point2 point3 point4 point5 point6 point7 point8
+  orderly-out e =
+      let p1 = both (point1 w) from2 e in
+      let p2 = both (point2 w) from3 (p1 .1) in
+      let p3 = both (point3 w) from4 (p2 .1) in
+      let p4 = both (point4 w) from5 (p3 .1) in
+      let p5 = both (point5 w) from6 (p4 .1) in
+      let p6 = both (point6 w) from7 (p5 .1) in
+      let p7 = both (point7 w) (point8 w) (p6 .1) in
+      let a1 = both last-ok (ents-ok && (few-ok && withinNumber s)) (p1 .0) in
+      let a2 = both ents-ok (few-ok && withinNumber s) (a1 .1) in
+      let a3 = both few-ok (withinNumber s) (a2 .1) in
+      let b1 = both cells-ok (ids-ok && cellsExact s) (p2 .0) in
+      let b2 = both ids-ok (cellsExact s) (b1 .1) in
+      let c1 = both lists-ok (listsExact touch26 s) (p3 .0) in
+      let d1 = both groups-ok (recordsExact s) (p5 .0) in
+      let h1 = both occs-ok (emps-ok && netsInOrder s) (p7 .1) in
+      let h2 = both emps-ok (netsInOrder s) (h1 .1) in
+      record {
+        last = eqb-true (getD w 7 0) 0 (a1 .0);
+        entity-rows = a2 .0;
+        cell-few = a3 .0;
+        cell-rows = b1 .0;
+        id-rows = b2 .0;
+        list-rows = c1 .0;
+        group-rows = d1 .0;
+        occupied-rows = h1 .0;
+        emptied-rows = h2 .0;
+        yard =
+            and-in (withinNumber s) of2 (a3 .1)
+            (and-in (cellsExact s) of3 (b2 .1)
+            (and-in (listsExact touch26 s) of4 (c1 .1)
+            (and-in (idsShared touch26 s) of5 (p4 .0)
+            (and-in (recordsExact s) of6 (d1 .1)
+            (and-in (idsBelowNext s) of7 (p6 .0)
+            (and-in (coordinatesInRange s) (netsInOrder s) (p7 .0) (h2 .1)))))));
+      }
+
+  -- Orderly words are consistent.
+  pub orderly-in : Orderly w → consistentWords w ≡ true
+  unfolding consistentWords point1 point2 point3 point4 point5 point6 point7 point8
+  orderly-in o =
+      let p1 = both (withinNumber s) of2 (o .yard) in
+      let p2 = both (cellsExact s) of3 (p1 .1) in
+      let p3 = both (listsExact touch26 s) of4 (p2 .1) in
+      let p4 = both (idsShared touch26 s) of5 (p3 .1) in
+      let p5 = both (recordsExact s) of6 (p4 .1) in
+      let p6 = both (idsBelowNext s) of7 (p5 .1) in
+      let p7 = both (coordinatesInRange s) (netsInOrder s) (p6 .1) in
+      let last : last-ok ≡ true = eq-eqb (getD w 7 0) 0 (o .last) in
+      and-in (point1 w) from2
+      (and-in last-ok (ents-ok && (few-ok && withinNumber s)) last
+      (and-in ents-ok (few-ok && withinNumber s) (o .entity-rows) (and-in few-ok (withinNumber s) (o .cell-few) (p1 .0))))
+      (and-in (point2 w) from3
+      (and-in cells-ok (ids-ok && cellsExact s) (o .cell-rows) (and-in ids-ok (cellsExact s) (o .id-rows) (p2 .0)))
+      (and-in (point3 w) from4 (and-in lists-ok (listsExact touch26 s) (o .list-rows) (p3 .0))
+      (and-in (point4 w) from5 (p4 .0)
+      (and-in (point5 w) from6 (and-in groups-ok (recordsExact s) (o .group-rows) (p5 .0))
+      (and-in (point6 w) from7 (p6 .0)
+      (and-in (point7 w) (point8 w) (p7 .0)
+      (and-in occs-ok (emps-ok && netsInOrder s) (o .occupied-rows) (and-in emps-ok (netsInOrder s) (o .emptied-rows) (p7 .1)))))))))

@@ -1,0 +1,2 @@
+pub mod DecodeEncode
+pub mod Canonical

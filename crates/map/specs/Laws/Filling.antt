@@ -1,0 +1,80 @@
+-- An answer is written cell by cell.
+use Prim.Native.Nat.{ℕ, _+_, _*_, _≤_, _<_}
+use native.Mathlib.Numerals.{add-one}
+use native.Mathlib.Omega.{arith}
+use mathlib.Core.Path.{_≡_, refl, sym, _∙_, ap}
+use mathlib.Core.List.{List, [], _∷_, _++_, append-assoc, append-nil}
+use lib.ListN.{length, take, drop, getD, length-append, length-drop}
+use lib.Seq.{take-suc, take-append-seam, drop-append-add, drop-drop, length-take-le, take-all, getD-take}
+use Rattle.model.specs.Lists.{gather}
+use Rattle.model.specs.Cells.{Cell}
+use Rattle.model.specs.Laws.Members.{gather-append, each-length}
+use Rattle.table.specs.Moves.{over}
+use Rattle.map.specs.Rows.{rowCell}
+use Rattle.map.specs.Answers.{answerWords, filled, cellsOfRows}
+use Rattle.map.specs.Laws.Lines.{each-at}
+
+-- A cell has four words.
+pub words-long : (l : List Cell) → length (gather answerWords l) ≡ 4 * length l
+words-long [] = refl
+words-long (c ∷ l) = omega (arith, words-long l)
+
+-- Words behind those that stand from the first word on.
+over-more : (s a b : List ℕ) → over (over s 0 a) (length a) b ≡ over s 0 (a ++ b)
+unfolding over
+over-more s a b =
+    let r : List ℕ = drop (0 + length a) s in
+    (λ i. take-append-seam a r i ++ (b ++ drop-append-add a r (length b) i))
+    ∙ ap (λ l. a ++ (b ++ l)) (drop-drop (length b) (0 + length a) s ∙ ap (λ m. drop m s) sizes)
+    ∙ sym (append-assoc a b (drop (0 + length (a ++ b)) s))
+  where
+    sizes : 0 + length a + length b ≡ 0 + length (a ++ b)
+    sizes = omega (arith, length-append a b)
+
+module _ (s : List ℕ) (l : List Cell) where
+  -- Before the first cell nothing is written.
+  pub filled-none : s ≡ filled s (take 0 l)
+  unfolding filled over
+  filled-none = refl
+
+  -- One cell more.
+  pub filled-more : (k : ℕ) (d : Cell) → k < length l → over (filled s (take k l)) (4 * k) (answerWords (getD l k d)) ≡ filled s (take (k + 1) l)
+  unfolding filled
+  filled-more k d h =
+      let n : 4 * k ≡ length (gather answerWords (take k l)) = omega (arith, words-long (take k l), length-take-le k l (omega arith)) in
+      ap (λ m. over (over s 0 (gather answerWords (take k l))) m (answerWords (getD l k d))) n
+      ∙ over-more s (gather answerWords (take k l)) (answerWords (getD l k d))
+      ∙ ap (over s 0) (sym (gather-append answerWords (take k l) (getD l k d ∷ []) ∙ ap (λ w. gather answerWords (take k l) ++ w) (append-nil (answerWords (getD l k d)))))
+      ∙ ap (λ m. over s 0 (gather answerWords m)) (sym (take-suc l k d h))
+      ∙ ap (λ m. over s 0 (gather answerWords (take m l))) (sym (add-one k))
+
+-- An answer keeps its length.
+pub filled-length : (s : List ℕ) (l : List Cell) → 4 * length l ≤ length s → length (filled s l) ≡ length s
+unfolding filled over
+filled-length s l h =
+    let w : List ℕ = gather answerWords l in
+    omega (arith, words-long l, length-append w (drop (0 + length w) s), length-drop (0 + length w) s)
+
+module _ (s : List ℕ) (l : List Cell) (k : ℕ) where
+  -- An answer keeps its length while it is written.
+  pub filling-kept : (answer : List ℕ) → answer ≡ filled s (take k l) → k ≤ length l → 4 * length l ≤ length s → length answer ≡ length s
+  filling-kept answer e g h = ap length e ∙ filled-length s (take k l) (omega (arith, length-take-le k l g))
+
+  -- The next cell is written.
+  pub filling-step : (answer answer′ : List ℕ) (c d : Cell) → answer ≡ filled s (take k l) → answer′ ≡ over answer (4 * k) (answerWords c) → c ≡ getD l k d → k < length l → answer′ ≡ filled s (take (k + 1) l)
+  filling-step answer answer′ c d e f g h = f ∙ (λ i. over (e i) (4 * k) (answerWords (g i))) ∙ filled-more s l k d h
+
+  -- All cells are written.
+  pub filling-end : (answer : List ℕ) → answer ≡ filled s (take k l) → length l ≤ k → answer ≡ filled s l
+  filling-end answer e h = e ∙ ap (filled s) (take-all k l h)
+
+module _ (words rows : List ℕ) (count : ℕ) (h : count ≤ length rows) where
+  -- There are as many cells as rows.
+  pub rows-long : length (cellsOfRows words rows count) ≡ count
+  rows-long = each-length (rowCell words) (take count rows) ∙ length-take-le count rows h
+
+  -- Each is the cell of its row.
+  pub rows-at : (k : ℕ) (d : Cell) → k < count → getD (cellsOfRows words rows count) k d ≡ rowCell words (getD rows k 0)
+  rows-at k d g =
+      each-at (rowCell words) (take count rows) k 0 d (omega (arith, length-take-le count rows h))
+      ∙ ap (rowCell words) (getD-take count rows k 0 g)

@@ -1,0 +1,276 @@
+// What is looked up in the table of occupied cells: a cell and its list, the occupied cells of a cube, floods.
+use component::Cell;
+use component::CellCoord;
+use component::CellId;
+use table::index;
+ghost use mathlib.Core.Path.{_≡_};
+ghost use mathlib.Core.Bool.{true};
+ghost use mathlib.Core.List.{List, _∷_, _++_};
+ghost use Prim.Native.Nat.{_+_, _*_, _≤_, _<_};
+ghost use lib.ListN.{length, take, getD};
+ghost use Rattle.component.specs.Stored.{biased};
+ghost use Rattle.model.specs.Lists.{whilst, keep, keys, gather};
+ghost use Rattle.model.specs.Cells.{Cell as CellOf};
+ghost use Rattle.model.specs.Flood.{atMost, within};
+ghost use Rattle.table.specs.Rows.{isTable4, table4};
+ghost use Rattle.table.specs.Moves.{over};
+ghost use Rattle.map.specs.Rows.{rowCell, rowNumbers, rowList, rowFor, onward};
+ghost use Rattle.map.specs.Fronts.{front, pushed, Followable};
+ghost use Rattle.map.specs.Standing.{Cells, Floodable, Flooded};
+ghost use Rattle.map.specs.Beside.{apart, beside};
+ghost use Rattle.map.specs.Answers.{signedWord, answerWords, filled, NearbyAsked, Nearby, Queued, cellsOfRows};
+
+// How many numbers the list of row i has: its words before the first zero.
+fn list_len(cells: &[u64], i: usize) -> usize
+    requires { ⌜ 30 * i + 30 ≤ length (now cells) ⌝ }
+    ensures { λ r. ⌜ r ≡ length (rowNumbers (now (cells .entry)) i) ⌝ }
+{
+    let at = 30 * i + 4;
+    let mut k = 0;
+    while k < 26 {
+        if cells[at + k] == 0 {
+            return k;
+        }
+        k += 1;
+    }
+    k
+}
+
+// The row of an occupied cell.
+fn row_of(cells: &[u64], n: usize, c: Cell) -> usize
+    requires { ⌜ isTable4 30 n (now cells) ≡ true ⌝ }
+    ensures { λ r. ⌜ r ≡ rowFor (now (cells .entry)) n c ⌝ }
+{
+    index(table::find4(cells, 30, n, c))
+}
+
+// The row that number k of the list of row i leads to.
+fn next_row(cells: &[u64], n: usize, i: usize, k: usize) -> usize
+    requires { ⌜ (isTable4 30 n (now cells) ≡ true) × (i < n) × (k < length (rowNumbers (now cells) i)) ⌝ }
+    ensures { λ r. ⌜ r ≡ getD (onward (now (cells .entry)) n i) k 0 ⌝ }
+{
+    let c = table::cell_at(cells, 30 * i);
+    let d = layout::neighbour_of(c, cells[30 * i + 4 + k]);
+    row_of(cells, n, d)
+}
+
+// The unmarked rows of the list of row i are marked and queued, in list order; the answer is the new end of the queue.
+fn follow(
+    cells: &[u64],
+    n: usize,
+    i: usize,
+    label: u64,
+    marks: &mut [u64],
+    queue: &mut [u64],
+    end: usize,
+) -> usize
+    requires { ⌜ Followable (now cells) n i label (front end (now marks) (now queue)) ⌝ }
+    ensures { λ r. ⌜ front r (now (marks .exit)) (now (queue .exit)) ≡ pushed label (front end (now (marks .entry)) (now (queue .entry))) (onward (now (cells .entry)) n i) ⌝ }
+{
+    let m = list_len(cells, i);
+    let mut e = end;
+    let mut k = 0;
+    while k < m {
+        let j = next_row(cells, n, i, k);
+        if marks[j] == 0 {
+            marks[j] = label;
+            queue[e] = j as u64;
+            e += 1;
+            k += 1;
+        } else {
+            k += 1;
+        }
+    }
+    e
+}
+
+// The flood from the row seed: first in, first out, each row marked when queued, lists followed in list order.
+pub fn flood_rows(
+    cells: &[u64],
+    n: usize,
+    seed: usize,
+    label: u64,
+    marks: &mut [u64],
+    queue: &mut [u64],
+) -> usize
+    requires { ⌜ Floodable (now cells) n seed label (now marks) (now queue) ⌝ }
+    ensures { λ r. ⌜ ((t : List (CellOf × List CellOf)) → Cells (now (cells .entry)) n t → Flooded (now (cells .entry)) n seed label (now (marks .entry)) (now (queue .entry)) r (now (marks .exit)) (now (queue .exit)) t) ⌝ }
+{
+    marks[seed] = label;
+    queue[0] = seed as u64;
+    let mut e = 1;
+    let mut h = 0;
+    while h < e {
+        let i = queue[h] as usize;
+        e = follow(cells, n, i, label, marks, queue, e);
+        h += 1;
+    }
+    e
+}
+
+// A stored coordinate as an answer has it: 2^31 less, as a word of two's complement.
+fn signed(n: u64) -> u64
+    ensures { λ r. ⌜ r ≡ signedWord n ⌝ }
+{
+    if n < 2_147_483_648 {
+        n + 18_446_744_071_562_067_968
+    } else {
+        n - 2_147_483_648
+    }
+}
+
+// The four words of a cell are written at at.
+pub fn write_cell(answer: &mut [u64], at: usize, c: Cell)
+    requires { ⌜ at + 4 ≤ length (now answer) ⌝ }
+    ensures { λ _. ⌜ now (answer .exit) ≡ over (now (answer .entry)) at (answerWords c) ⌝ }
+{
+    let row = [c.grid, signed(c.x), signed(c.y), signed(c.z)];
+    table::write_row(answer, at, &row);
+}
+
+// The cell of a row for 0, and the k-th of its list for k.
+fn near_cell(cells: &[u64], row: usize, k: usize) -> Cell
+    requires { ⌜ (30 * row + 30 ≤ length (now cells)) × (k ≤ length (rowNumbers (now cells) row)) ⌝ }
+    ensures { λ r. ⌜ r ≡ getD (rowCell (now (cells .entry)) row ∷ rowList (now (cells .entry)) row) k (rowCell (now (cells .entry)) row) ⌝ }
+{
+    let c = table::cell_at(cells, 30 * row);
+    if k == 0 {
+        return c;
+    }
+    layout::neighbour_of(c, cells[30 * row + 3 + k])
+}
+
+// The cell of a row and then its list, in list order, are written; the answer is how many.
+pub fn nearby_into(cells: &[u64], n: usize, row: usize, answer: &mut [u64]) -> usize
+    requires { ⌜ NearbyAsked (now cells) n row (now answer) ⌝ }
+    ensures { λ r. ⌜ ((t : List (CellOf × List CellOf)) → Cells (now (cells .entry)) n t → Nearby (now (cells .entry)) row (now (answer .entry)) r (now (answer .exit)) t) ⌝ }
+{
+    let m = list_len(cells, row) + 1;
+    let mut k = 0;
+    while k < m {
+        let c = near_cell(cells, row, k);
+        write_cell(answer, 4 * k, c);
+        k += 1;
+    }
+    m
+}
+
+// Whether two numbers are at most r apart.
+fn are_apart(r: u64, m: u64, n: u64) -> bool
+    ensures { λ t. ⌜ t ≡ apart r m n ⌝ }
+{
+    if m <= n { n - m <= r } else { m - n <= r }
+}
+
+// Whether d is of c's grid, at most r from it on each axis, and another cell.
+fn is_beside(r: u64, c: Cell, d: Cell) -> bool
+    ensures { λ t. ⌜ t ≡ beside r c d ⌝ }
+{
+    let g = d.grid == c.grid;
+    let z = are_apart(r, c.z, d.z);
+    let y = are_apart(r, c.y, d.y);
+    let x = are_apart(r, c.x, d.x);
+    let same = component::same_cell(c, d);
+    g & (z & (y & (x & !same)))
+}
+
+// The occupied cells beside c come to stand in words behind the first from cells; the answer is how many stand there then.
+pub fn cube_into(cells: &[u64], n: usize, c: Cell, r: u64, words: &mut [u64], from: usize) -> usize
+    requires { ⌜ (30 * n ≤ length (now cells)) × (4 * (from + n) ≤ length (now words)) ⌝ }
+    ensures { λ k. ⌜ (k ≤ from + n) × (take (4 * k) (now (words .exit)) ≡ take (4 * from) (now (words .entry)) ++ gather answerWords (keep (beside r c) (keys (table4 30 n (now (cells .entry)))))) ⌝ }
+{
+    let mut k = from;
+    let mut i = 0;
+    while i < n {
+        let d = table::cell_at(cells, 30 * i);
+        if is_beside(r, c, d) {
+            write_cell(words, 4 * k, d);
+            k += 1;
+            i += 1;
+        } else {
+            i += 1;
+        }
+    }
+    k
+}
+
+// The cells of the first count rows are written, in their order.
+pub fn flood_into(cells: &[u64], n: usize, rows: &[u64], count: usize, answer: &mut [u64])
+    requires { ⌜ Queued (now cells) n (now rows) count × (4 * count ≤ length (now answer)) ⌝ }
+    ensures { λ _. ⌜ now (answer .exit) ≡ filled (now (answer .entry)) (cellsOfRows (now (cells .entry)) (now (rows .entry)) count) ⌝ }
+{
+    let mut k = 0;
+    while k < count {
+        let i = rows[k] as usize;
+        let c = table::cell_at(cells, 30 * i);
+        write_cell(answer, 4 * k, c);
+        k += 1;
+    }
+}
+
+// A depth, 2^31 more.
+fn depth_word(depth: i32) -> u64
+    ensures { λ r. ⌜ (r ≡ biased depth) × (r < 4294967296) ⌝ }
+{
+    let p = CellCoord {
+        x: depth,
+        y: depth,
+        z: depth,
+    };
+    let c = component::stored(CellId { grid: 0, coord: p });
+    c.x
+}
+
+// Whether a coordinate minus the seed's is at most the depth.
+fn at_most(d: u64, seed: u64, n: u64) -> bool
+    requires { ⌜ d < 4294967296 ⌝ }
+    ensures { λ r. ⌜ r ≡ atMost d seed n ⌝ }
+{
+    if n <= seed {
+        let down = seed - n;
+        if down >= 2_147_483_648 {
+            return true;
+        }
+        2_147_483_648 <= down + d
+    } else {
+        let up = n - seed;
+        if up >= 4_294_967_296 {
+            return false;
+        }
+        up + 2_147_483_648 <= d
+    }
+}
+
+// Whether no coordinate of c minus the seed's is above the depth.
+fn is_within(d: u64, seed: Cell, c: Cell) -> bool
+    requires { ⌜ d < 4294967296 ⌝ }
+    ensures { λ r. ⌜ r ≡ within d seed c ⌝ }
+{
+    at_most(d, seed.x, c.x) & (at_most(d, seed.y, c.y) & at_most(d, seed.z, c.z))
+}
+
+// How many of the first count rows come before the first above the depth.
+pub fn depth_cut(
+    cells: &[u64],
+    n: usize,
+    queue: &[u64],
+    count: usize,
+    seed: usize,
+    depth: i32,
+) -> usize
+    requires { ⌜ Queued (now cells) n (now queue) count × (seed < n) ⌝ }
+    ensures { λ r. ⌜ r ≡ length (whilst (within (biased depth) (rowCell (now (cells .entry)) seed)) (cellsOfRows (now (cells .entry)) (now (queue .entry)) count)) ⌝ }
+{
+    let d = depth_word(depth);
+    let s = table::cell_at(cells, 30 * seed);
+    let mut k = 0;
+    while k < count {
+        let i = queue[k] as usize;
+        let c = table::cell_at(cells, 30 * i);
+        if !is_within(d, s, c) {
+            return k;
+        }
+        k += 1;
+    }
+    k
+}

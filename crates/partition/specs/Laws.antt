@@ -1,0 +1,6 @@
+pub mod Held
+pub mod Records
+pub mod Ids
+pub mod Found
+pub mod Join
+pub mod Leave

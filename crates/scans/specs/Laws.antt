@@ -1,0 +1,4 @@
+pub mod Scans
+pub mod Readings
+pub mod Wanted
+pub mod Marks

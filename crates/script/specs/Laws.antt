@@ -1,0 +1,4 @@
+pub mod Decimal
+pub mod Examples
+pub mod Written
+pub mod Writing

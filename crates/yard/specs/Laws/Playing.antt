@@ -1,0 +1,227 @@
+-- The events of a batch, one after the other.
+use Prim.Native.Nat.{ℕ, _+_, _*_, _≤_, _<_}
+use native.Mathlib.Numerals.{add-one}
+use native.Mathlib.Omega.{arith}
+use mathlib.Core.Path.{_≡_, refl, sym, ap, _∙_, subst}
+use mathlib.Core.Bool.{Bool, true, false, cond, not}
+use mathlib.Core.List.{List, [], _∷_, _++_}
+use lib.Dec.{ltb, eqb}
+use lib.ListN.{length, take, drop, getD}
+use lib.Seq.{length-take-le, drop-cons, drop-length, getD-take}
+use borrow.Author.Tests.{ltb-false, eqb-true}
+use Rattle.model.specs.Lists.{run, has, each, all}
+use Rattle.component.specs.Laws.Tests.{both}
+use Rattle.model.specs.Cells.{Cell, same, below, cellInRange, touch26}
+use Rattle.model.specs.Occupancy.{Occupancy, Event, remove, moveTo, occupied, play, events}
+use Rattle.model.specs.Update.{mostEntities, mostCells, tooManyEntities, tooManyCells, brokenBy}
+use Rattle.model.specs.Laws.Members.{keep-shorter, run-append}
+use Rattle.model.specs.Laws.Sorted.{Asc}
+use Rattle.model.specs.Laws.Tables.{keys-length}
+use Rattle.model.specs.Laws.Touching.{touching-26}
+use Rattle.model.specs.Laws.Occupied.{Sound, pass-sound, events-keep}
+use Rattle.model.specs.Laws.Net.{Net, pass-net}
+use Rattle.batch.specs.Words.{moveAt, movesIn, batchOf}
+use Rattle.batch.specs.Laws.Words.{movesLeft, moves-start, moves-step, moves-end}
+use Rattle.map.specs.declared.Counts.{Counts}
+use Rattle.map.specs.Held.{Held, RoomToEnter, RoomToLeave}
+use Rattle.yard.specs.declared.Played.{Played}
+use Rattle.yard.specs.Playing.{judged, Roomy, Ready, Going, Outcome, inRange, toMove}
+
+-- The net lists stay the difference with an event.
+play-net : (was : List Cell) → Asc below was → (o : Occupancy) → Sound touch26 o → Net was o → (ev : Event) → Net was (play touch26 o ev)
+play-net was asc o ok net ev =
+    events-keep touch26 (λ p. Sound touch26 p × Net was p) (λ p. Unit {0})
+    (λ p q x h u. (pass-sound touch26 (touching-26 .flip) (touching-26 .apart) p q (x .0) h, pass-net touch26 was asc p q (x .0) (x .1) h))
+    o (ev ∷ []) (λ p m. tt) (ok, net) .1
+
+module _ {ents cells crowd occ emp : List ℕ} {n : Counts} {was : List Cell} {o : Occupancy} (r : Ready ents cells crowd occ emp n was o) where
+  -- The newly occupied cells are no more than the occupied.
+  opened-few : length (o .newlyOccupied) ≤ mostCells
+  opened-few =
+      omega (arith, ap length (r .net .opened), keep-shorter (λ c. not (has same was c)) (occupied o), r .within .cells)
+
+  -- The newly emptied cells are no more than were occupied.
+  emptied-few : length (o .newlyEmptied) ≤ mostCells
+  emptied-few =
+      omega (arith, ap length (r .net .emptied), keep-shorter (λ c. not (has same (occupied o) c)) was, r .was-few)
+
+  -- There is room for a cell more in the newly emptied list.
+  pub ready-leave : RoomToLeave emp n
+  ready-leave = omega (arith, r .room .emp-room, r .held .stored .emptied-count, emptied-few)
+
+  -- There is room for an entity more, and for its cell.
+  pub ready-enter : RoomToEnter ents cells crowd occ n
+  ready-enter =
+      let c : n .cells ≤ mostCells = omega (arith, r .held .stored .cells-count, keys-length (o .lists), r .within .cells) in
+      record {
+        entities-room = omega (arith, r .room .ents-room, r .held .entities-count, r .within .entities);
+        crowd-room = omega (arith, r .room .crowd-room, c);
+        opening = record {
+          cells-room = omega (arith, r .room .cells-room, c);
+          occupied-room = omega (arith, r .room .occ-room, r .held .stored .occupied-count, opened-few);
+        };
+      }
+
+  -- All events are left.
+  pub going-start : (es left : List Event) → es ≡ left → Going ents cells crowd occ emp n was o es left
+  going-start es left e = record { at = o; ready = r; broken = ap (brokenBy touch26 o) e; ends = ap (run (play touch26) o) e }
+
+-- What is left, said in another way.
+pub going-at : {ents cells crowd occ emp : List ℕ} {n : Counts} {was : List Cell} {o : Occupancy} {es left left′ : List Event} → left ≡ left′ → Going ents cells crowd occ emp n was o es left → Going ents cells crowd occ emp n was o es left′
+going-at e g = record { at = g .at; ready = g .ready; broken = g .broken ∙ ap (brokenBy touch26 (g .at)) e; ends = g .ends ∙ ap (run (play touch26) (g .at)) e }
+
+-- Room is a matter of lengths.
+roomy-kept : (ents cells crowd occ emp ents′ cells′ crowd′ occ′ emp′ : List ℕ) → length ents′ ≡ length ents → length cells′ ≡ length cells → length crowd′ ≡ length crowd → length occ′ ≡ length occ → length emp′ ≡ length emp
+    → Roomy ents cells crowd occ emp → Roomy ents′ cells′ crowd′ occ′ emp′
+roomy-kept ents cells crowd occ emp ents′ cells′ crowd′ occ′ emp′ a b c d e r =
+    record {
+      ents-room = omega (arith, r .ents-room, a);
+      cells-room = omega (arith, r .cells-room, b);
+      crowd-room = omega (arith, r .crowd-room, c);
+      occ-room = omega (arith, r .occ-room, d);
+      emp-room = omega (arith, r .emp-room, e);
+    }
+
+-- A judgement of two tests, and the numbers that follow.
+pass-both : (a b : Bool) (m : ℕ) → cond {A = ℕ} a 6 (cond b 7 0) ≡ 0 → (a ≡ false) × (b ≡ false) × (cond a 6 (cond b 7 m) ≡ m)
+pass-both true b m e = absurd (omega arith)
+pass-both false true m e = absurd (omega arith)
+pass-both false false m e = (refl, refl, refl)
+
+stop-first : (a b : Bool) (m k : ℕ) → k ≡ cond a 6 (cond b 7 0) → (k ≡ 0 → ⊥) → k ≡ cond a 6 (cond b 7 m)
+stop-first true b m k e f = e
+stop-first false true m k e f = e
+stop-first false false m k e f = absurd (f e)
+
+module _ {ents cells crowd occ emp : List ℕ} {n : Counts} {was : List Cell} {o : Occupancy} {es : List Event} (ev : Event) (left : List Event) (g : Going ents cells crowd occ emp n was o es (ev ∷ left))
+    (ents′ cells′ crowd′ occ′ emp′ : List ℕ) (n′ : Counts) (h : Held ents′ cells′ crowd′ occ′ emp′ n′ (play touch26 (g .at) ev)) where
+  abbrev after : Occupancy
+  after = play touch26 (g .at) ev
+
+  judged-is : judged n′ ≡ cond (tooManyEntities after) 6 (cond (tooManyCells after) 7 0)
+  unfolding judged
+  judged-is =
+      λ i. cond (ltb mostEntities (h .entities-count i)) 6 (cond (ltb mostCells ((h .stored .cells-count ∙ sym (keys-length (after .lists))) i)) 7 0)
+
+  -- An event that breaks a limit decides.
+  pub going-stop : (k : ℕ) → k ≡ judged n′ → (k ≡ 0 → ⊥) → k ≡ brokenBy touch26 o es
+  going-stop k e f =
+      stop-first (tooManyEntities after) (tooManyCells after) (brokenBy touch26 after left) k (e ∙ judged-is) f ∙ sym (g .broken)
+
+  -- An event that breaks none leaves the decision to the others.
+  pub going-next : length ents′ ≡ length ents → length cells′ ≡ length cells → length crowd′ ≡ length crowd → length occ′ ≡ length occ → length emp′ ≡ length emp
+      → judged n′ ≡ 0 → Going ents′ cells′ crowd′ occ′ emp′ n′ was o es left
+  going-next a b c d e z =
+      let p = pass-both (tooManyEntities after) (tooManyCells after) (brokenBy touch26 after left) (sym judged-is ∙ z) in
+      record {
+        at = after;
+        ready = record {
+          held = h;
+          within = record {
+            entities = ltb-false mostEntities (length (after .entities)) (p .0);
+            cells = ltb-false mostCells (length (occupied after)) (p .1);
+          };
+          was-asc = g .ready .was-asc;
+          was-few = g .ready .was-few;
+          net = play-net was (g .ready .was-asc) (g .at) (g .ready .held .placed .sound) (g .ready .net) ev;
+          room = roomy-kept ents cells crowd occ emp ents′ cells′ crowd′ occ′ emp′ a b c d e (g .ready .room);
+        };
+        broken = g .broken ∙ p .2;
+        ends = g .ends;
+      }
+
+-- No event is left.
+pub going-end : {ents cells crowd occ emp : List ℕ} {n : Counts} {was : List Cell} {o : Occupancy} {es : List Event} (left : List Event) → left ≡ [] → Going ents cells crowd occ emp n was o es left
+    → (r : Played) → r .number ≡ 0 → r .counts ≡ n → Outcome ents cells crowd occ emp r was o es
+going-end {ents} {cells} {crowd} {occ} {emp} {n} {was} {o} {es} left e g r z q =
+    record {
+      number = z ∙ sym (g .broken ∙ ap (brokenBy touch26 (g .at)) e);
+      ready = λ k. subst (λ (m : Counts). Ready ents cells crowd occ emp m was (run (play touch26) o es)) (sym q)
+          (subst (λ (u : Occupancy). Ready ents cells crowd occ emp n was u) (sym (g .ends ∙ ap (run (play touch26) (g .at)) e)) (g .ready));
+    }
+
+-- The number of events one after the other.
+broken-append : (es fs : List Event) (o : Occupancy) → brokenBy touch26 o (es ++ fs) ≡ cond (eqb (brokenBy touch26 o es) 0) (brokenBy touch26 (run (play touch26) o es) fs) (brokenBy touch26 o es)
+broken-append [] fs o = refl
+broken-append (e ∷ es) fs o = go (tooManyEntities (play touch26 o e)) (tooManyCells (play touch26 o e)) (broken-append es fs (play touch26 o e))
+  where
+    last : ℕ
+    last = brokenBy touch26 (run (play touch26) (play touch26 o e) es) fs
+
+    go : (a b : Bool) → brokenBy touch26 (play touch26 o e) (es ++ fs) ≡ cond (eqb (brokenBy touch26 (play touch26 o e) es) 0) last (brokenBy touch26 (play touch26 o e) es)
+        → cond a 6 (cond b 7 (brokenBy touch26 (play touch26 o e) (es ++ fs)))
+        ≡ cond (eqb (cond a 6 (cond b 7 (brokenBy touch26 (play touch26 o e) es))) 0) last (cond a 6 (cond b 7 (brokenBy touch26 (play touch26 o e) es)))
+    go true b h = refl
+    go false true h = refl
+    go false false h = h
+
+pick : (k m : ℕ) → (k ≡ 0 → ⊥) → cond (eqb k 0) m k ≡ k
+pick k m f = go (eqb k 0) refl
+  where
+    go : (b : Bool) → eqb k 0 ≡ b → cond b m k ≡ k
+    go true e = absurd (f (eqb-true k 0 e))
+    go false e = refl
+
+module _ {ents cells crowd occ emp : List ℕ} (r : Played) {was : List Cell} {o : Occupancy} (es fs : List Event) (x : Outcome ents cells crowd occ emp r was o es) where
+  -- The first events decide.
+  pub outcome-stop : (r .number ≡ 0 → ⊥) → Outcome ents cells crowd occ emp r was o (es ++ fs)
+  outcome-stop f =
+      record {
+        number = x .number ∙ sym (broken-append es fs o ∙ pick (brokenBy touch26 o es) (brokenBy touch26 (run (play touch26) o es) fs) (λ e. f (x .number ∙ e)));
+        ready = λ e. absurd (f e);
+      }
+
+  -- The first events break no limit, and the others decide.
+  pub outcome-then : r .number ≡ 0 → {ents′ cells′ crowd′ occ′ emp′ : List ℕ} (q : Played) → Outcome ents′ cells′ crowd′ occ′ emp′ q was (run (play touch26) o es) fs → Outcome ents′ cells′ crowd′ occ′ emp′ q was o (es ++ fs)
+  outcome-then z {ents′} {cells′} {crowd′} {occ′} {emp′} q y =
+      record {
+        number = y .number ∙ sym (broken-append es fs o ∙ ap (λ (k : ℕ). cond (eqb k 0) (brokenBy touch26 (run (play touch26) o es) fs) k) (sym (x .number) ∙ z));
+        ready = λ e. subst (λ (u : Occupancy). Ready ents′ cells′ crowd′ occ′ emp′ (q .counts) was u) (sym (run-append (play touch26) o es fs)) (y .ready e);
+      }
+
+-- The removals from the i-th on.
+abbrev pub removalsLeft : List ℕ → ℕ → ℕ → List Event
+removalsLeft b r i = each remove (drop i (take r b))
+
+module _ (b : List ℕ) (r : ℕ) (h : r ≤ length b) where
+  pub removals-step : (i : ℕ) → i < r → removalsLeft b r i ≡ remove (getD b i 0) ∷ removalsLeft b r (i + 1)
+  removals-step i k =
+      ap (each remove) (drop-cons (take r b) i 0 (omega (arith, length-take-le r b h)))
+      ∙ (λ j. remove (getD-take r b i 0 k j) ∷ each remove (drop (sym (add-one i) j) (take r b)))
+
+  pub removals-end : (i : ℕ) → i ≡ r → removalsLeft b r i ≡ []
+  removals-end i e = ap (each remove) (ap (λ (m : ℕ). drop m (take r b)) (e ∙ sym (length-take-le r b h)) ∙ drop-length (take r b))
+
+-- The moves from the i-th on.
+module _ (b : List ℕ) (from moves : ℕ) where
+  abbrev pub eventsLeft : ℕ → List Event
+  eventsLeft i = each toMove (movesLeft b from moves i)
+
+  pub events-start : each toMove (movesIn moves (drop from b)) ≡ eventsLeft 0
+  events-start = ap (each toMove) (moves-start b from moves)
+
+  pub events-step : (i : ℕ) → i < moves → (c : Cell) → c ≡ moveAt b (from + 5 * i) .1 → eventsLeft i ≡ moveTo (getD b (from + 5 * i) 0) c ∷ eventsLeft (i + 1)
+  events-step i h c e = ap (each toMove) (moves-step b from moves i h) ∙ (λ j. moveTo (getD b (from + 5 * i) 0) (sym e j) ∷ eventsLeft (i + 1))
+
+  -- The i-th goes to a cell in range, and so do those behind it.
+  pub range-step : (i : ℕ) → i < moves → all inRange (movesLeft b from moves i) ≡ true
+      → (cellInRange (moveAt b (from + 5 * i) .1) ≡ true) × (all inRange (movesLeft b from moves (i + 1)) ≡ true)
+  range-step i h e =
+      both (cellInRange (moveAt b (from + 5 * i) .1)) (all inRange (movesLeft b from moves (i + 1)))
+      (sym (ap (all inRange) (moves-step b from moves i h)) ∙ e)
+
+  pub events-end : (i : ℕ) → moves ≤ i → eventsLeft i ≡ []
+  events-end i h = ap (each toMove) (moves-end b from moves i h)
+
+-- The removals of a batch, and then its moves.
+module _ (b : List ℕ) (r m : ℕ) {ents cells crowd occ emp : List ℕ} (p : Played) {was : List Cell} {o : Occupancy} (x : Outcome ents cells crowd occ emp p was o (each remove (take r b))) where
+  -- The removals decide.
+  pub batch-stop : (p .number ≡ 0 → ⊥) → Outcome ents cells crowd occ emp p was o (events (batchOf b r m))
+  unfolding batchOf
+  batch-stop f = outcome-stop p (each remove (take r b)) (each toMove (movesIn m (drop r b))) x f
+
+  -- The moves decide.
+  pub batch-then : p .number ≡ 0 → {ents′ cells′ crowd′ occ′ emp′ : List ℕ} (q : Played) → Outcome ents′ cells′ crowd′ occ′ emp′ q was (run (play touch26) o (each remove (take r b))) (each toMove (movesIn m (drop r b)))
+      → Outcome ents′ cells′ crowd′ occ′ emp′ q was o (events (batchOf b r m))
+  unfolding batchOf
+  batch-then z q y = outcome-then p (each remove (take r b)) (each toMove (movesIn m (drop r b))) x z q y
