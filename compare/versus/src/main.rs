@@ -3,8 +3,9 @@
 //! versus run SEED BATCHES          compares at least as many accepted batches
 //! versus kind NAME SEED BATCHES    the same with scripts of one kind
 //! versus record SEED               writes the Rust's answers for some scripts, as plain numbers
-//! versus speed                     the time of a batch on both sides
+//! versus speed                     the time of a batch on both sides, and of the port's calls by themselves
 
+mod alone;
 mod compare;
 mod counts;
 mod offer;
@@ -37,6 +38,7 @@ fn main() -> ExitCode {
         },
         ["speed"] => {
             speed::speed();
+            alone::alone();
             ExitCode::SUCCESS
         }
         ["record", seed] => {
