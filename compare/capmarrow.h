@@ -20,7 +20,7 @@ extern "C" {
 #endif
 
 /* How many words a state has. */
-#define CAPMARROW_STATE_LEN 73736
+#define CAPMARROW_STATE_LEN 48136
 /* The longest answer of a list: 1,024 cells of four words, or 4,096 entities. */
 #define CAPMARROW_ANSWER_LEN 4096
 /* The longest batch: 1,024 moves of five words. */
@@ -28,6 +28,7 @@ extern "C" {
 
 #define CAPMARROW_TOLD_WHERE 5 /* found, grid, x, y, z */
 #define CAPMARROW_TOLD_ID 2    /* found, id */
+#define CAPMARROW_TOLD_COUNT 2 /* found, how many */
 #define CAPMARROW_TOLD_GROUP 9 /* found, grid, cell count, low x, y, z, high x, y, z */
 #define CAPMARROW_TOLD_LIST 2  /* found, how many; after 8: 0, the words needed */
 #define CAPMARROW_TOLD_FLOOD 3 /* found, how many cells, 1 if that was all; after 8: 0, the words needed, 0 */
@@ -45,6 +46,9 @@ uint64_t capmarrow_where_is(const uint64_t *state, size_t state_len, uint64_t en
 /* Tells the id of a cell; refuses by 1, 2 and 4. */
 uint64_t capmarrow_id_of(const uint64_t *state, size_t state_len, uint64_t grid, int32_t x, int32_t y, int32_t z, uint64_t *told, size_t told_len);
 
+/* Tells how many neighbours of a cell are occupied; refuses by 1, 2 and 4. */
+uint64_t capmarrow_neighbour_count(const uint64_t *state, size_t state_len, uint64_t grid, int32_t x, int32_t y, int32_t z, uint64_t *told, size_t told_len);
+
 /* Tells a group by its id; refuses by 1 and 2. */
 uint64_t capmarrow_group(const uint64_t *state, size_t state_len, uint64_t id, uint64_t *told, size_t told_len);
 
@@ -60,7 +64,7 @@ uint64_t capmarrow_newly_emptied(const uint64_t *state, size_t state_len, uint64
 /* Gives the entities of a cell, ascending, one word each; refuses by 1, 2, 4 and 8. */
 uint64_t capmarrow_entities_in(const uint64_t *state, size_t state_len, uint64_t grid, int32_t x, int32_t y, int32_t z, uint64_t *answer, size_t answer_len, uint64_t *told, size_t told_len);
 
-/* Gives a cell and then its list in list order, four words each; refuses by 1, 2, 4 and 8. */
+/* Gives a cell and then the occupied cells that it touches in cell order, four words each; refuses by 1, 2, 4 and 8. */
 uint64_t capmarrow_nearby(const uint64_t *state, size_t state_len, uint64_t grid, int32_t x, int32_t y, int32_t z, uint64_t *answer, size_t answer_len, uint64_t *told, size_t told_len);
 
 /* Gives the centre first and then its neighbours of a radius in cell order, occupied ones only, four words each; an empty centre is not

@@ -5,6 +5,7 @@ extern "C" {
     pub fn capmarrow_update(state: *mut u64, state_len: usize, batch: *const u64, batch_len: usize, removals: u64, moves: u64) -> u64;
     pub fn capmarrow_where_is(state: *const u64, state_len: usize, entity: u64, told: *mut u64, told_len: usize) -> u64;
     pub fn capmarrow_id_of(state: *const u64, state_len: usize, grid: u64, x: i32, y: i32, z: i32, told: *mut u64, told_len: usize) -> u64;
+    pub fn capmarrow_neighbour_count(state: *const u64, state_len: usize, grid: u64, x: i32, y: i32, z: i32, told: *mut u64, told_len: usize) -> u64;
     pub fn capmarrow_group(state: *const u64, state_len: usize, id: u64, told: *mut u64, told_len: usize) -> u64;
     pub fn capmarrow_ids(state: *const u64, state_len: usize, answer: *mut u64, answer_len: usize, told: *mut u64, told_len: usize) -> u64;
     pub fn capmarrow_newly_occupied(state: *const u64, state_len: usize, answer: *mut u64, answer_len: usize, told: *mut u64, told_len: usize) -> u64;

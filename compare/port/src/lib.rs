@@ -13,7 +13,7 @@ pub use types::{Answer, Batch, Cell, Cube, Flood, Group, Lookup, Refusal};
 pub use yard::Yard;
 
 /// How many words a state has.
-pub const STATE_LEN: usize = 73_736;
+pub const STATE_LEN: usize = 48_136;
 /// How many occupied cells a yard has at most.
 pub const MOST_CELLS: usize = 1_024;
 /// How many entities a yard has at most.

@@ -107,6 +107,16 @@ pub enum Lookup<T> {
     NotFound,
 }
 
+impl<T> Lookup<T> {
+    /// The same of what is made of it.
+    pub fn map<U>(self, f: impl FnOnce(T) -> U) -> Lookup<U> {
+        match self {
+            Lookup::Found(answer) => Lookup::Found(f(answer)),
+            Lookup::NotFound => Lookup::NotFound,
+        }
+    }
+}
+
 /// A group: its grid, its cell count, and its low and its high corner, x, y, z of each.
 #[derive(Debug, Clone, Copy, PartialEq, Eq)]
 pub struct Group {

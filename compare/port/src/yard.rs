@@ -47,6 +47,13 @@ impl Yard {
         Ok(lookup(told[0], || told[1]))
     }
 
+    /// How many neighbours of a cell are occupied.
+    pub fn neighbour_count(&self, cell: Cell) -> Answer<Lookup<u64>> {
+        let mut told = [0; 2];
+        Refusal::of(calls::neighbour_count(&self.words, cell, &mut told))?;
+        Ok(lookup(told[0], || told[1]))
+    }
+
     /// A group by id.
     pub fn group(&self, id: u64) -> Answer<Lookup<Group>> {
         let mut told = [0; 9];
@@ -76,7 +83,7 @@ impl Yard {
         Ok(lookup(found, || list))
     }
 
-    /// A cell, then its list in list order.
+    /// A cell, then the occupied cells that it touches, in cell order.
     pub fn nearby(&self, cell: Cell) -> Answer<Lookup<Vec<Cell>>> {
         let (found, list) = cells(|answer, told| calls::nearby(&self.words, cell, answer, told))?;
         Ok(lookup(found, || list))

@@ -76,13 +76,13 @@ impl Sides {
         }
     }
 
-    /// Entities, occupied cells, the order of each list, and both net lists.
+    /// Entities, occupied cells, the neighbours that each mask and each list tell of, and both net lists.
     fn occupancy(&self, counts: &mut Counts) -> Verdict {
-        let lists = self.rust.lists();
-        counts.cells += lists.len() as u64;
-        counts.lists += lists.values().filter(|list| !list.is_empty()).count() as u64;
+        let neighbours: BTreeMap<Cell, BTreeSet<Cell>> = self.rust.lists().into_iter().map(|(c, list)| (c, list.into_iter().collect())).collect();
+        counts.cells += neighbours.len() as u64;
+        counts.masks += neighbours.values().filter(|list| !list.is_empty()).count() as u64;
         same("entities", self.state().entities(), self.rust.entities())?;
-        same("occupied cells or their lists", self.state().lists(), lists)?;
+        same("occupied cells or their neighbours", self.state().neighbours(), neighbours)?;
         same("newly occupied cells", self.state().newly_occupied(), self.rust.newly_occupied())?;
         same("newly emptied cells", self.state().newly_emptied(), self.rust.newly_emptied())
     }

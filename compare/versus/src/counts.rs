@@ -9,7 +9,7 @@ pub struct Counts {
     pub accepted: u64,
     pub refused: BTreeMap<u64, u64>,
     pub cells: u64,
-    pub lists: u64,
+    pub masks: u64,
     pub groups: u64,
     pub merges: u64,
     pub splits: u64,
@@ -36,7 +36,7 @@ impl fmt::Display for Counts {
         for (number, n) in &self.refused {
             writeln!(f, "batches refused by {number}, the state unchanged: {n}")?;
         }
-        writeln!(f, "cells compared: {}, their lists: {}", self.cells, self.lists)?;
+        writeln!(f, "cells compared: {}, of these with neighbours: {}", self.cells, self.masks)?;
         writeln!(f, "groups compared: {} (merged {}, split {}, of these tied {})", self.groups, self.merges, self.splits, self.ties)?;
         writeln!(f, "batches with ids compared: {} (merged {}, split {})", self.with_ids, self.merges_with_ids, self.splits_with_ids)?;
         writeln!(f, "groups of which the Rust kept other corners: {}", self.older_corners)?;

@@ -4,6 +4,7 @@ use crate::compare::{same, Sides, Verdict};
 use crate::counts::Counts;
 use crate::rng::Rng;
 use capmarrow::{calls, Answer, Cell, Cube, Flood, Lookup, Refusal, Yard, FAR, STATE_LEN};
+use std::collections::BTreeSet;
 
 /// How much is asked after a batch.
 #[derive(Clone, Copy, PartialEq)]
@@ -60,7 +61,7 @@ pub fn ask(sides: &Sides, asking: Asking, rng: &mut Rng, counts: &mut Counts) ->
             n => near(cells[rng.below(n as u64) as usize], i32::from(rng.once_in(3)), rng),
         };
         about(sides, &yard, at, counts)?;
-        flood(sides, &yard, at, asking, rng, counts)?;
+        flood(sides, &yard, at, rng, counts)?;
         cube(sides, &yard, near(at, 1, rng), &cells, rng, counts)?;
     }
     refusals(sides, cells.first().copied().unwrap_or(anywhere), rng, counts)
@@ -92,7 +93,9 @@ fn stranger(yard: &Yard, entities: &[(u64, Cell)], rng: &mut Rng, counts: &mut C
 /// A cell's entities, list and id, and its group.
 fn about(sides: &Sides, yard: &Yard, at: Cell, counts: &mut Counts) -> Verdict {
     same("entities of a cell", answered(yard.entities_in(at))?, found(sides.rust.entities_in(at)))?;
-    same("nearby cells", answered(yard.nearby(at))?, found(sides.rust.nearby(at)))?;
+    let nearby = sides.rust.nearby(at);
+    same("neighbour counts", answered(yard.neighbour_count(at))?, found(nearby.as_ref().map(|list| list.len() as u64 - 1)))?;
+    same("nearby cells, as sets", answered(yard.nearby(at))?.map(|list| first_and_set(&list)), found(nearby).map(|list| first_and_set(&list)))?;
     let id = sides.state().ids().get(&at).copied();
     same("ids of a cell", answered(yard.id_of(at))?, found(id))?;
     same("whether a cell has an id", id.is_some(), sides.rust.id_of(at).is_some())?;
@@ -102,27 +105,34 @@ fn about(sides: &Sides, yard: &Yard, at: Cell, counts: &mut Counts) -> Verdict {
     }
     counts.asked("entities_in");
     counts.asked("nearby");
+    counts.asked("neighbour_count");
     counts.asked("id_of");
     Ok(())
 }
 
-/// Floods with and without a depth, up to a budget at or about their length.
-fn flood(sides: &Sides, yard: &Yard, seed: Cell, asking: Asking, rng: &mut Rng, counts: &mut Counts) -> Verdict {
-    let small = Some(rng.below(6) as i32);
-    let odd = Some(rng.pick(&[-1, i32::MIN, i32::MAX, -3, 255]));
-    let depths: &[Option<i32>] = if asking == Asking::Few { &[None, small] } else { &[None, small, odd] };
-    for depth in depths {
-        let whole = sides.rust.flood(seed, *depth);
-        let long = whole.len() as u64;
-        let budget = rng.pick(&[long, long.saturating_sub(1), long + 1, long / 2, 0, u64::MAX, 1024]);
-        let cut = whole[..long.min(budget) as usize].to_vec();
-        let expected = match sides.rust.nearby(seed) {
-            Some(_) => Lookup::Found(Flood { cells: cut, was_all: long <= budget }),
-            None => Lookup::NotFound,
-        };
-        same("floods", answered(yard.flood(seed, *depth, budget))?, expected)?;
-        counts.asked(if depth.is_some() { "flood to a depth" } else { "flood" });
-    }
+/// The first cell of a list, the set of all of its cells, and how many they are.
+fn first_and_set(list: &[Cell]) -> (Option<Cell>, BTreeSet<Cell>, usize) {
+    (list.first().copied(), list.iter().copied().collect(), list.len())
+}
+
+/// Floods without a depth: their cells as a set where the budget covers them all, and else their number. Against the Rust the order
+/// is not compared, as its lists have another.
+fn flood(sides: &Sides, yard: &Yard, seed: Cell, rng: &mut Rng, counts: &mut Counts) -> Verdict {
+    let whole = sides.rust.flood(seed, None);
+    let long = whole.len() as u64;
+    let shape = |f: Flood| (first_and_set(&f.cells), f.was_all);
+    let expected = match sides.rust.nearby(seed) {
+        Some(_) => Lookup::Found((first_and_set(&whole), true)),
+        None => Lookup::NotFound,
+    };
+    let covers = rng.pick(&[long, long + 1, u64::MAX, 1024]);
+    same("floods, as sets", answered(yard.flood(seed, None, covers))?.map(shape), expected)?;
+    counts.asked("flood");
+    let budget = rng.pick(&[long.saturating_sub(1), long / 2, 0, 1]);
+    let cut = |f: Flood| (f.cells.len() as u64, f.was_all, f.cells.iter().all(|c| whole.contains(c)));
+    let told = answered(yard.flood(seed, None, budget))?.map(cut);
+    same("numbers of floods that a budget cuts", told, found(sides.rust.nearby(seed)).map(|_| (long.min(budget), long <= budget, true)))?;
+    counts.asked("flood up to a budget");
     Ok(())
 }
 

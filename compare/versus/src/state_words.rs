@@ -2,14 +2,14 @@
 
 use crate::plain::touching;
 use capmarrow::{Cell, Group};
-use std::collections::BTreeMap;
+use std::collections::{BTreeMap, BTreeSet};
 
 const ENTITIES: usize = 8;
 const CELLS: usize = 20_488;
-const OCCUPIED: usize = 51_208;
-const EMPTIED: usize = 55_304;
-const IDS: usize = 59_400;
-const GROUPS: usize = 64_520;
+const OCCUPIED: usize = 25_608;
+const EMPTIED: usize = 29_704;
+const IDS: usize = 33_800;
+const GROUPS: usize = 38_920;
 
 pub struct StateWords<'a>(pub &'a [u64]);
 
@@ -26,9 +26,10 @@ fn corner(w: &[u64]) -> [i32; 3] {
     [axis(w[0]), axis(w[1]), axis(w[2])]
 }
 
-/// The list of a cell: a word n stands for the n-th touching cell, counted from 1; 0 ends it.
-fn list(c: Cell, words: &[u64]) -> Vec<Cell> {
-    words.iter().take_while(|n| **n != 0).map(|n| touching(c).nth(*n as usize - 1).expect("26 touching cells")).collect()
+/// The occupied neighbours that a mask tells of: bit k stands for the k-th touching cell, counted from 0.
+fn told_by(c: Cell, mask: u64) -> BTreeSet<Cell> {
+    assert_eq!(mask >> 26, 0, "a mask has 26 bits");
+    touching(c).enumerate().filter(|(k, _)| mask >> k & 1 == 1).map(|(_, d)| d).collect()
 }
 
 impl<'a> StateWords<'a> {
@@ -44,8 +45,9 @@ impl<'a> StateWords<'a> {
         self.rows(ENTITIES, 5, 0).map(|row| (row[0], cell(&row[1..]))).collect()
     }
 
-    pub fn lists(&self) -> BTreeMap<Cell, Vec<Cell>> {
-        self.rows(CELLS, 30, 1).map(|row| (cell(row), list(cell(row), &row[4..]))).collect()
+    /// Each occupied cell with the neighbours that its mask tells of.
+    pub fn neighbours(&self) -> BTreeMap<Cell, BTreeSet<Cell>> {
+        self.rows(CELLS, 5, 1).map(|row| (cell(row), told_by(cell(row), row[4]))).collect()
     }
 
     pub fn newly_occupied(&self) -> Vec<Cell> {

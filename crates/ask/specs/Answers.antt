@@ -11,17 +11,18 @@ use Rattle.component.specs.declared.CellId.{CellId}
 use Rattle.component.specs.Stored.{stored, biased, unbiased, cellId}
 use Rattle.component.specs.Coord.{coordInRange}
 use Rattle.model.specs.Lists.{has, gather}
-use Rattle.model.specs.Cells.{Cell, same}
+use Rattle.model.specs.Cells.{Cell, same, touch26}
 use Rattle.model.specs.Occupancy.{occupied}
 use Rattle.model.specs.Flood.{Flood, flood}
 use Rattle.model.specs.Flood as asked
 use Rattle.model.specs.Groups.{Corner, Group}
-use Rattle.model.specs.Questions.{Listed, whereIs, groupBy, entitiesIn, idList, nearby, cube}
+use Rattle.model.specs.Questions.{Listed, whereIs, neighbourCount, groupBy, entitiesIn, idList, nearby, cube}
 use Rattle.model.specs.Questions as question
 use Rattle.layout.specs.State.{decode}
 use Rattle.layout.specs.Points.{longEnough, consistentWords}
 use Rattle.ask.specs.declared.Where.{Where}
 use Rattle.ask.specs.declared.IdOf.{IdOf}
+use Rattle.ask.specs.declared.CountOf.{CountOf}
 use Rattle.map.specs.Answers.{answerWords}
 use Rattle.ask.specs.declared.GroupOf.{GroupOf}
 use Rattle.ask.specs.declared.Listing.{Listing}
@@ -58,6 +59,15 @@ idFrom (some g) = IdOf.Found g
 -- The id of a cell.
 unfoldable pub idOf : List ℕ → CellId → IdOf
 idOf w c = unless (cellRefusal w c) IdOf.Refused (idFrom (question.idOf (decode w) (stored c)))
+
+-- The answer for a neighbour count that is found, or not.
+abbrev pub countFrom : Option ℕ → CountOf
+countFrom none = CountOf.NotFound
+countFrom (some n) = CountOf.Found n
+
+-- The neighbour count of a cell.
+unfoldable pub countOf : List ℕ → CellId → CountOf
+countOf w c = unless (cellRefusal w c) CountOf.Refused (countFrom (neighbourCount (decode w) (stored c)))
 
 -- The answer for a group that is found, or not.
 abbrev pub groupFrom : Option Group → GroupOf
@@ -128,7 +138,7 @@ entitiesOf w c answer = unlessRefused (cellRefusal w c) answer (listedNumbers (e
 
 -- A cell, then its list in list order.
 unfoldable pub nearbyOf : List ℕ → CellId → List ℕ → Listing × List ℕ
-nearbyOf w c answer = unlessRefused (cellRefusal w c) answer (listedCells (nearby (decode w) (stored c)) answer)
+nearbyOf w c answer = unlessRefused (cellRefusal w c) answer (listedCells (nearby touch26 (decode w) (stored c)) answer)
 
 -- The centre first, then its neighbours of a radius in order, occupied ones only.
 unfoldable pub cubeOf : List ℕ → CellId → ℕ → List ℕ → Listing × List ℕ
@@ -152,4 +162,4 @@ flooded found f answer =
 unfoldable pub floodOf : List ℕ → CellId → Depth → ℕ → List ℕ → Flooding × List ℕ
 floodOf w c depth budget answer =
     unless (cellRefusal w c) (λ n. (Flooding.Refused n, answer))
-    (flooded (has same (occupied (decode w .occupancy)) (stored c)) (flood (decode w .occupancy) (stored c) (depthOf depth) budget) answer)
+    (flooded (has same (occupied (decode w .occupancy)) (stored c)) (flood touch26 (decode w .occupancy) (stored c) (depthOf depth) budget) answer)

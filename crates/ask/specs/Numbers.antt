@@ -5,6 +5,7 @@ use mathlib.Core.Bool.{Bool, cond, not, _&&_}
 use lib.Dec.{eqb}
 use Rattle.ask.specs.declared.Where.{Where}
 use Rattle.ask.specs.declared.IdOf.{IdOf}
+use Rattle.ask.specs.declared.CountOf.{CountOf}
 use Rattle.ask.specs.declared.GroupOf.{GroupOf}
 use Rattle.ask.specs.declared.Listing.{Listing}
 use Rattle.ask.specs.declared.Flooding.{Flooding}
@@ -20,6 +21,12 @@ abbrev pub idNumber : IdOf → ℕ
 idNumber (IdOf.Found g) = 0
 idNumber IdOf.NotFound = 0
 idNumber (IdOf.Refused n) = n
+
+-- Found or not found is 0, and a refusal its number.
+abbrev pub countNumber : CountOf → ℕ
+countNumber (CountOf.Found k) = 0
+countNumber CountOf.NotFound = 0
+countNumber (CountOf.Refused n) = n
 
 -- Found or not found is 0, and a refusal its number.
 abbrev pub groupNumber : GroupOf → ℕ

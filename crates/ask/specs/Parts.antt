@@ -10,10 +10,10 @@ use Rattle.model.specs.Cells.{Cell, same}
 use Rattle.model.specs.Update.{State}
 
 -- A state with a table of occupied cells and nothing else.
-abbrev pub having : List (Cell × List Cell) → State
+abbrev pub having : List (Cell × ℕ) → State
 having t =
     record {
-      occupancy = record { entities = []; lists = t; newlyOccupied = []; newlyEmptied = [] };
+      occupancy = record { entities = []; masks = t; newlyOccupied = []; newlyEmptied = [] };
       groups = record { ids = []; next = 0 };
       records = [];
     }

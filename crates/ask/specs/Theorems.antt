@@ -10,23 +10,24 @@ use Rattle.component.specs.declared.CellId.{CellId}
 use Rattle.component.specs.Coord.{coordInRange}
 use Rattle.component.specs.Stored.{stored}
 use Rattle.model.specs.Lists.{has, gather}
-use Rattle.model.specs.Cells.{same}
+use Rattle.model.specs.Cells.{same, touch26}
 use Rattle.model.specs.Occupancy.{occupied}
 use Rattle.model.specs.Flood.{flood}
-use Rattle.model.specs.Questions.{whereIs, groupBy, entitiesIn, idList, nearby, cube}
+use Rattle.model.specs.Questions.{whereIs, neighbourCount, groupBy, entitiesIn, idList, nearby, cube}
 use Rattle.model.specs.Questions as question
 use Rattle.layout.specs.State.{decode}
 use Rattle.layout.specs.Points.{longEnough, consistentWords}
 use Rattle.map.specs.Answers.{answerWords}
 use Rattle.ask.specs.declared.Where.{Where}
 use Rattle.ask.specs.declared.IdOf.{IdOf}
+use Rattle.ask.specs.declared.CountOf.{CountOf}
 use Rattle.ask.specs.declared.GroupOf.{GroupOf}
 use Rattle.ask.specs.declared.Listing.{Listing}
 use Rattle.ask.specs.declared.Flooding.{Flooding}
 use Rattle.ask.specs.declared.Depth.{Depth}
-use Rattle.ask.specs.Numbers.{whereNumber, idNumber, groupNumber, listingNumber, floodingNumber, Exactly}
-use Rattle.ask.specs.Answers.{refusal, cellRefusal, whereFrom, whereOf, idFrom, idOf, groupFrom, groupOf, cornersOf, visited, depthOf, idsOf, occupiedOf, emptiedOf, entitiesOf, nearbyOf, cubeOf, floodOf}
-use Rattle.ask.specs.Laws.Told.{one-answer, where-done, id-done, group-done, lookup-told, cell-told, list-told, cell-list-told, listing-done, flooding-done, list-kept}
+use Rattle.ask.specs.Numbers.{whereNumber, idNumber, countNumber, groupNumber, listingNumber, floodingNumber, Exactly}
+use Rattle.ask.specs.Answers.{refusal, cellRefusal, whereFrom, whereOf, idFrom, idOf, countFrom, countOf, groupFrom, groupOf, cornersOf, visited, depthOf, idsOf, occupiedOf, emptiedOf, entitiesOf, nearbyOf, cubeOf, floodOf}
+use Rattle.ask.specs.Laws.Told.{one-answer, where-done, id-done, count-done, group-done, lookup-told, cell-told, list-told, cell-list-told, listing-done, flooding-done, list-kept}
 
 -- The number of where an entity stands.
 pub where-told : (w : List ℕ) (e : ℕ) → Exactly (whereNumber (whereOf w e)) (longEnough w) (consistentWords w) true false
@@ -37,6 +38,11 @@ where-told w e = lookup-told w whereNumber Where.Refused (λ n. refl) (whereFrom
 pub id-told : (w : List ℕ) (c : CellId) → Exactly (idNumber (idOf w c)) (longEnough w) (consistentWords w) (coordInRange (c .coord)) false
 unfolding idOf
 id-told w c = cell-told w c idNumber IdOf.Refused (λ n. refl) (idFrom (question.idOf (decode w) (stored c))) (id-done (question.idOf (decode w) (stored c)))
+
+-- The number of a neighbour count.
+pub count-told : (w : List ℕ) (c : CellId) → Exactly (countNumber (countOf w c)) (longEnough w) (consistentWords w) (coordInRange (c .coord)) false
+unfolding countOf
+count-told w c = cell-told w c countNumber CountOf.Refused (λ n. refl) (countFrom (neighbourCount (decode w) (stored c))) (count-done (neighbourCount (decode w) (stored c)))
 
 -- The number of a group.
 pub group-told : (w : List ℕ) (g : ℕ) → Exactly (groupNumber (groupOf w g)) (longEnough w) (consistentWords w) true false
@@ -66,11 +72,11 @@ entities-told w c answer =
     (cond (entitiesIn (decode w) (stored c) .found) (Listing.Found (length (entitiesIn (decode w) (stored c) .list))) (Listing.NotFound (length (entitiesIn (decode w) (stored c) .list)))) (listing-done (entitiesIn (decode w) (stored c) .found) (length (entitiesIn (decode w) (stored c) .list)))
 
 -- The number of nearby.
-pub nearby-told : (w : List ℕ) (c : CellId) (answer : List ℕ) → Exactly (listingNumber (nearbyOf w c answer .0)) (longEnough w) (consistentWords w) (coordInRange (c .coord)) (ltb (length answer) (length (gather answerWords (nearby (decode w) (stored c) .list))))
+pub nearby-told : (w : List ℕ) (c : CellId) (answer : List ℕ) → Exactly (listingNumber (nearbyOf w c answer .0)) (longEnough w) (consistentWords w) (coordInRange (c .coord)) (ltb (length answer) (length (gather answerWords (nearby touch26 (decode w) (stored c) .list))))
 unfolding nearbyOf
 nearby-told w c answer =
-    cell-list-told w c answer listingNumber Listing.Refused (λ n. refl) Listing.TooLong (λ n. refl) (gather answerWords (nearby (decode w) (stored c) .list))
-    (cond (nearby (decode w) (stored c) .found) (Listing.Found (length (nearby (decode w) (stored c) .list))) (Listing.NotFound (length (nearby (decode w) (stored c) .list)))) (listing-done (nearby (decode w) (stored c) .found) (length (nearby (decode w) (stored c) .list)))
+    cell-list-told w c answer listingNumber Listing.Refused (λ n. refl) Listing.TooLong (λ n. refl) (gather answerWords (nearby touch26 (decode w) (stored c) .list))
+    (cond (nearby touch26 (decode w) (stored c) .found) (Listing.Found (length (nearby touch26 (decode w) (stored c) .list))) (Listing.NotFound (length (nearby touch26 (decode w) (stored c) .list)))) (listing-done (nearby touch26 (decode w) (stored c) .found) (length (nearby touch26 (decode w) (stored c) .list)))
 
 -- The number of a cube.
 pub cube-told : (w : List ℕ) (c : CellId) (r : ℕ) (answer : List ℕ) → Exactly (listingNumber (cubeOf w c r answer .0)) (longEnough w) (consistentWords w) (coordInRange (c .coord)) (ltb (length answer) (length (gather answerWords (cube (decode w) (stored c) r .list))))
@@ -81,12 +87,12 @@ cube-told w c r answer =
 
 -- The number of a flood.
 pub flood-told : (w : List ℕ) (c : CellId) (depth : Depth) (budget : ℕ) (answer : List ℕ)
-    → Exactly (floodingNumber (floodOf w c depth budget answer .0)) (longEnough w) (consistentWords w) (coordInRange (c .coord)) (ltb (length answer) (length (gather answerWords (flood (decode w .occupancy) (stored c) (depthOf depth) budget .cells))))
+    → Exactly (floodingNumber (floodOf w c depth budget answer .0)) (longEnough w) (consistentWords w) (coordInRange (c .coord)) (ltb (length answer) (length (gather answerWords (flood touch26 (decode w .occupancy) (stored c) (depthOf depth) budget .cells))))
 unfolding floodOf
 flood-told w c depth budget answer =
-    cell-list-told w c answer floodingNumber Flooding.Refused (λ n. refl) Flooding.TooLong (λ n. refl) (gather answerWords (flood (decode w .occupancy) (stored c) (depthOf depth) budget .cells))
-    (cond (has same (occupied (decode w .occupancy)) (stored c)) (Flooding.Found (visited (flood (decode w .occupancy) (stored c) (depthOf depth) budget))) (Flooding.NotFound (visited (flood (decode w .occupancy) (stored c) (depthOf depth) budget))))
-    (flooding-done (has same (occupied (decode w .occupancy)) (stored c)) (visited (flood (decode w .occupancy) (stored c) (depthOf depth) budget)))
+    cell-list-told w c answer floodingNumber Flooding.Refused (λ n. refl) Flooding.TooLong (λ n. refl) (gather answerWords (flood touch26 (decode w .occupancy) (stored c) (depthOf depth) budget .cells))
+    (cond (has same (occupied (decode w .occupancy)) (stored c)) (Flooding.Found (visited (flood touch26 (decode w .occupancy) (stored c) (depthOf depth) budget))) (Flooding.NotFound (visited (flood touch26 (decode w .occupancy) (stored c) (depthOf depth) budget))))
+    (flooding-done (has same (occupied (decode w .occupancy)) (stored c)) (visited (flood touch26 (decode w .occupancy) (stored c) (depthOf depth) budget)))
 
 -- A refusal leaves the answer's slice as found.
 pub ids-kept : (w answer : List ℕ) → eqb (listingNumber (idsOf w answer .0)) 0 ≡ false → idsOf w answer .1 ≡ answer
@@ -110,8 +116,8 @@ entities-kept w c answer =
 pub nearby-kept : (w : List ℕ) (c : CellId) (answer : List ℕ) → eqb (listingNumber (nearbyOf w c answer .0)) 0 ≡ false → nearbyOf w c answer .1 ≡ answer
 unfolding nearbyOf
 nearby-kept w c answer =
-    list-kept listingNumber Listing.Refused Listing.TooLong (cond (nearby (decode w) (stored c) .found) (Listing.Found (length (nearby (decode w) (stored c) .list))) (Listing.NotFound (length (nearby (decode w) (stored c) .list))))
-    (listing-done (nearby (decode w) (stored c) .found) (length (nearby (decode w) (stored c) .list))) (cellRefusal w c) (gather answerWords (nearby (decode w) (stored c) .list)) answer
+    list-kept listingNumber Listing.Refused Listing.TooLong (cond (nearby touch26 (decode w) (stored c) .found) (Listing.Found (length (nearby touch26 (decode w) (stored c) .list))) (Listing.NotFound (length (nearby touch26 (decode w) (stored c) .list))))
+    (listing-done (nearby touch26 (decode w) (stored c) .found) (length (nearby touch26 (decode w) (stored c) .list))) (cellRefusal w c) (gather answerWords (nearby touch26 (decode w) (stored c) .list)) answer
 
 pub cube-kept : (w : List ℕ) (c : CellId) (r : ℕ) (answer : List ℕ) → eqb (listingNumber (cubeOf w c r answer .0)) 0 ≡ false → cubeOf w c r answer .1 ≡ answer
 unfolding cubeOf
@@ -122,8 +128,8 @@ cube-kept w c r answer =
 pub flood-kept : (w : List ℕ) (c : CellId) (depth : Depth) (budget : ℕ) (answer : List ℕ) → eqb (floodingNumber (floodOf w c depth budget answer .0)) 0 ≡ false → floodOf w c depth budget answer .1 ≡ answer
 unfolding floodOf
 flood-kept w c depth budget answer =
-    list-kept floodingNumber Flooding.Refused Flooding.TooLong (cond (has same (occupied (decode w .occupancy)) (stored c)) (Flooding.Found (visited (flood (decode w .occupancy) (stored c) (depthOf depth) budget))) (Flooding.NotFound (visited (flood (decode w .occupancy) (stored c) (depthOf depth) budget))))
-    (flooding-done (has same (occupied (decode w .occupancy)) (stored c)) (visited (flood (decode w .occupancy) (stored c) (depthOf depth) budget))) (cellRefusal w c) (gather answerWords (flood (decode w .occupancy) (stored c) (depthOf depth) budget .cells)) answer
+    list-kept floodingNumber Flooding.Refused Flooding.TooLong (cond (has same (occupied (decode w .occupancy)) (stored c)) (Flooding.Found (visited (flood touch26 (decode w .occupancy) (stored c) (depthOf depth) budget))) (Flooding.NotFound (visited (flood touch26 (decode w .occupancy) (stored c) (depthOf depth) budget))))
+    (flooding-done (has same (occupied (decode w .occupancy)) (stored c)) (visited (flood touch26 (decode w .occupancy) (stored c) (depthOf depth) budget))) (cellRefusal w c) (gather answerWords (flood touch26 (decode w .occupancy) (stored c) (depthOf depth) budget .cells)) answer
 
 -- Any two answers that a call allows are equal.
 pub where-one : (w : List ℕ) (e : ℕ) (r s : Where) → r ≡ whereOf w e → s ≡ whereOf w e → r ≡ s
@@ -131,6 +137,9 @@ where-one w e r s = one-answer r s (whereOf w e)
 
 pub id-one : (w : List ℕ) (c : CellId) (r s : IdOf) → r ≡ idOf w c → s ≡ idOf w c → r ≡ s
 id-one w c r s = one-answer r s (idOf w c)
+
+pub count-one : (w : List ℕ) (c : CellId) (r s : CountOf) → r ≡ countOf w c → s ≡ countOf w c → r ≡ s
+count-one w c r s = one-answer r s (countOf w c)
 
 pub group-one : (w : List ℕ) (g : ℕ) (r s : GroupOf) → r ≡ groupOf w g → s ≡ groupOf w g → r ≡ s
 group-one w g r s = one-answer r s (groupOf w g)

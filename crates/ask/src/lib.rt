@@ -19,9 +19,9 @@ ghost use lib.ListN.{length, getD, take};
 ghost use Rattle.component.specs.Range.{cellInRange};
 ghost use Rattle.component.specs.Stored.{unbiased};
 ghost use Rattle.model.specs.Lists.{get, has, keys, gather};
-ghost use Rattle.model.specs.Cells.{same};
+ghost use Rattle.model.specs.Cells.{same, touch26};
 ghost use Rattle.model.specs.Flood.{cutAt, flood as floodBy};
-ghost use Rattle.model.specs.Questions.{nearby as nearbyBy, cube as cubeBy};
+ghost use Rattle.model.specs.Questions.{onesOf, nearby as nearbyBy, cube as cubeBy};
 ghost use Rattle.table.specs.Rows.{table1, isTable1, isTable4};
 ghost use Rattle.layout.specs.Rows.{entitiesIn, cellsIn, netIn, idsIn, groupsIn};
 ghost use Rattle.layout.specs.State.{entityWords, cellWords, occupiedWords, emptiedWords, idWords, groupWords};
@@ -29,7 +29,7 @@ ghost use Rattle.layout.specs.Points.{longEnough};
 ghost use Rattle.map.specs.Rows.{rowCell};
 ghost use Rattle.map.specs.Standing.{Cells, Floodable};
 ghost use Rattle.map.specs.Answers.{answerWords, Queued, cellsOfRows};
-ghost use Rattle.ask.specs.Answers.{refusal, cellRefusal, whereFrom, whereOf, idFrom, idOf, groupFrom, groupOf, cornersFrom, cornersOf, listed, listedNumbers, listedCells, there, flooded, depthOf, idsOf, entitiesOf, occupiedOf, emptiedOf, nearbyOf, cubeOf, floodOf};
+ghost use Rattle.ask.specs.Answers.{refusal, cellRefusal, whereFrom, whereOf, idFrom, idOf, countFrom, countOf, groupFrom, groupOf, cornersFrom, cornersOf, listed, listedNumbers, listedCells, there, flooded, depthOf, idsOf, entitiesOf, occupiedOf, emptiedOf, nearbyOf, cubeOf, floodOf};
 ghost use Rattle.ask.specs.Parts.{having, standingIn, anyOf};
 
 // Where an entity stands.
@@ -42,6 +42,13 @@ pub enum Where {
 // The id of a cell.
 pub enum IdOf {
     Found(u64),
+    NotFound,
+    Refused(u64),
+}
+
+// How many neighbours of a cell are occupied.
+pub enum CountOf {
+    Found(u32),
     NotFound,
     Refused(u64),
 }
@@ -219,6 +226,34 @@ pub fn id_of(state: &[u64], cell: CellId) -> IdOf
     let rows = id_words(state);
     let n = count_at(state, 4);
     find_id(rows, n, component::stored(cell))
+}
+
+// The neighbour count of a cell, by the rows of the occupied cells: the ones of its mask.
+fn find_count(rows: &[u64], n: usize, c: Cell) -> CountOf
+    requires { ⌜ isTable4 5 n (now rows) ≡ true ⌝ }
+    ensures { λ r. ⌜ r ≡ countFrom (onesOf (get same (cellsIn n (now (rows .entry))) c)) ⌝ }
+{
+    let p = table::find4(rows, 5, n, c);
+    match p {
+        Place::Found(i) => {
+            let bits = rows[5 * i + 4];
+            CountOf::Found(mask::count(bits))
+        }
+        Place::Missing(_) => CountOf::NotFound,
+    }
+}
+
+// How many neighbours of a cell are occupied.
+pub fn neighbour_count(state: &[u64], cell: CellId) -> CountOf
+    ensures { λ r. ⌜ r ≡ countOf (now (state .entry)) cell ⌝ }
+{
+    let no = cell_refused(state, cell);
+    if no != 0 {
+        return CountOf::Refused(no);
+    }
+    let rows = cell_words(state);
+    let n = count_at(state, 1);
+    find_count(rows, n, component::stored(cell))
 }
 
 // A group by id, by the rows of the groups.
@@ -438,10 +473,10 @@ pub fn entities_in(state: &[u64], cell: CellId, answer: &mut [u64]) -> Listing
 // A cell and its list, by the rows of the occupied cells.
 fn give_nearby(cells: &[u64], n: usize, c: Cell, answer: &mut [u64]) -> Listing
     requires { ⌜ Cells (now cells) n (cellsIn n (now cells)) ⌝ }
-    ensures { λ r. ⌜ (r, now (answer .exit)) ≡ listedCells (nearbyBy (having (cellsIn n (now (cells .entry)))) c) (now (answer .entry)) ⌝ }
+    ensures { λ r. ⌜ (r, now (answer .exit)) ≡ listedCells (nearbyBy touch26 (having (cellsIn n (now (cells .entry)))) c) (now (answer .entry)) ⌝ }
 {
     let mut words = [0u64; 4100];
-    let p = table::find4(cells, 30, n, c);
+    let p = table::find4(cells, 5, n, c);
     match p {
         Place::Found(i) => {
             let k = map::nearby_into(cells, n, i, &mut words);
@@ -470,7 +505,7 @@ fn give_cube(cells: &[u64], n: usize, c: Cell, radius: u8, answer: &mut [u64]) -
     ensures { λ r. ⌜ (r, now (answer .exit)) ≡ listedCells (cubeBy (having (cellsIn n (now (cells .entry)))) c radius) (now (answer .entry)) ⌝ }
 {
     let mut words = [0u64; 4100];
-    let p = table::find4(cells, 30, n, c);
+    let p = table::find4(cells, 5, n, c);
     match p {
         Place::Found(_) => {
             map::write_cell(&mut words, 0, c);
@@ -531,7 +566,7 @@ fn flood_over(
     answer: &mut [u64],
 ) -> Flooding
     requires { ⌜ Floodable (now cells) n seed 1 (now marks) (now queue) × Cells (now cells) n (cellsIn n (now cells)) × (n ≤ 1024) ⌝ }
-    ensures { λ r. ⌜ (r, now (answer .exit)) ≡ flooded true (floodBy (having (cellsIn n (now (cells .entry))) .occupancy) (rowCell (now (cells .entry)) seed) (depthOf depth) budget) (now (answer .entry)) ⌝ }
+    ensures { λ r. ⌜ (r, now (answer .exit)) ≡ flooded true (floodBy touch26 (having (cellsIn n (now (cells .entry))) .occupancy) (rowCell (now (cells .entry)) seed) (depthOf depth) budget) (now (answer .entry)) ⌝ }
 {
     let whole = map::flood_rows(cells, n, seed, 1, marks, queue);
     let left = left_by(cells, n, queue, whole, seed, depth);
@@ -554,7 +589,7 @@ fn flood_from(
     answer: &mut [u64],
 ) -> Flooding
     requires { ⌜ Cells (now cells) n (cellsIn n (now cells)) × (seed < n) × (n ≤ 1024) ⌝ }
-    ensures { λ r. ⌜ (r, now (answer .exit)) ≡ flooded true (floodBy (having (cellsIn n (now (cells .entry))) .occupancy) (rowCell (now (cells .entry)) seed) (depthOf depth) budget) (now (answer .entry)) ⌝ }
+    ensures { λ r. ⌜ (r, now (answer .exit)) ≡ flooded true (floodBy touch26 (having (cellsIn n (now (cells .entry))) .occupancy) (rowCell (now (cells .entry)) seed) (depthOf depth) budget) (now (answer .entry)) ⌝ }
 {
     let mut marks = [0u64; 1024];
     let mut queue = [0u64; 1024];
@@ -580,9 +615,9 @@ fn give_flood(
     answer: &mut [u64],
 ) -> Flooding
     requires { ⌜ Cells (now cells) n (cellsIn n (now cells)) × (n ≤ 1024) ⌝ }
-    ensures { λ r. ⌜ (r, now (answer .exit)) ≡ flooded (has same (keys (cellsIn n (now (cells .entry)))) c) (floodBy (having (cellsIn n (now (cells .entry))) .occupancy) c (depthOf depth) budget) (now (answer .entry)) ⌝ }
+    ensures { λ r. ⌜ (r, now (answer .exit)) ≡ flooded (has same (keys (cellsIn n (now (cells .entry)))) c) (floodBy touch26 (having (cellsIn n (now (cells .entry))) .occupancy) c (depthOf depth) budget) (now (answer .entry)) ⌝ }
 {
-    let p = table::find4(cells, 30, n, c);
+    let p = table::find4(cells, 5, n, c);
     match p {
         Place::Found(i) => flood_from(cells, n, i, depth, budget, answer),
         Place::Missing(_) => Flooding::NotFound(Visited {

@@ -1,6 +1,7 @@
 // A question is asked, and its answer put down as text.
 use crate::answers::MARK;
 use crate::answers::put_corners;
+use crate::answers::put_count;
 use crate::answers::put_flood;
 use crate::answers::put_group;
 use crate::answers::put_id;
@@ -120,6 +121,9 @@ pub fn put_asked(out: &mut [u8; 4096], state: &[u64], given: &[u64; 32], a: Aske
     }
     if key == keys::ID {
         return put_id(out, ask::id_of(state, cell(given)));
+    }
+    if key == keys::COUNT {
+        return put_count(out, ask::neighbour_count(state, cell(given)));
     }
     if key == keys::GROUP {
         return put_group(out, ask::group(state, given[0]));

@@ -43,6 +43,8 @@ pub const WHERE: u64 = 0x7768657265;
 
 pub const ID: u64 = 0x6964;
 
+pub const COUNT: u64 = 0x636f756e74;
+
 pub const GROUP: u64 = 0x67726f7570;
 
 pub const CORNERS: u64 = 0x636f726e657273;

@@ -137,7 +137,7 @@ fn event(batch: &mut [u64; 6144], d: Desk, key: u64, given: &[u64; 32]) -> Desk 
 
 // A line that makes ready for questions: how much is lent from now on, words that are changed, a yard, or events.
 fn prepare(
-    state: &mut [u64; 73744],
+    state: &mut [u64; 48144],
     batch: &mut [u64; 6144],
     d: Desk,
     key: u64,
@@ -166,7 +166,7 @@ fn prepare(
 }
 
 // The first words of a state; all of them where it has fewer.
-fn first_words(state: &[u64; 73744], n: usize) -> &[u64] {
+fn first_words(state: &[u64; 48144], n: usize) -> &[u64] {
     let all = &state[..];
     if n <= all.len() { &all[0..n] } else { all }
 }
@@ -203,7 +203,7 @@ fn judge_first(question: &[u8], expected: &[u8], found: &[u8; 4096], used: usize
 
 // The batch updates the state, and its code is judged; the next batch is open then.
 fn run(
-    state: &mut [u64; 73744],
+    state: &mut [u64; 48144],
     batch: &[u64; 6144],
     d: Desk,
     question: &[u8],
@@ -223,7 +223,7 @@ fn run(
 }
 
 // A fresh state is made, and its code is judged.
-fn begin(state: &mut [u64; 73744], first_id: u64, question: &[u8], expected: &[u8]) {
+fn begin(state: &mut [u64; 48144], first_id: u64, question: &[u8], expected: &[u8]) {
     let mut found = [0u8; 4096];
     let code = fresh::fresh(state, first_id);
     let u = put_text(&mut found, 0, b"code");
@@ -233,7 +233,7 @@ fn begin(state: &mut [u64; 73744], first_id: u64, question: &[u8], expected: &[u
 
 // A question is asked and judged.
 fn ask_one(
-    state: &[u64; 73744],
+    state: &[u64; 48144],
     given: &[u64; 32],
     a: Asked,
     words: usize,
@@ -248,7 +248,7 @@ fn ask_one(
 // A line that asks: what stands before ` = ` and what stands behind it, which is the answer that is expected. Behind a yard, and
 // behind the state as it stands, it is a name.
 fn judged(
-    state: &mut [u64; 73744],
+    state: &mut [u64; 48144],
     batch: &mut [u64; 6144],
     d: Desk,
     key: u64,
@@ -284,7 +284,7 @@ fn judged(
 }
 
 // A line that is no heading.
-fn told(state: &mut [u64; 73744], batch: &mut [u64; 6144], d: Desk, line: &[u8]) -> Desk {
+fn told(state: &mut [u64; 48144], batch: &mut [u64; 6144], d: Desk, line: &[u8]) -> Desk {
     let key = word(line);
     let mut given = [0u64; 32];
     let len = line.len();
@@ -309,7 +309,7 @@ fn told(state: &mut [u64; 73744], batch: &mut [u64; 6144], d: Desk, line: &[u8])
 }
 
 // A line: a heading, which begins with # and is written as it is, a note, which begins with %, an empty one, or any other.
-fn turn(state: &mut [u64; 73744], batch: &mut [u64; 6144], d: Desk, line: &[u8]) -> Desk {
+fn turn(state: &mut [u64; 48144], batch: &mut [u64; 6144], d: Desk, line: &[u8]) -> Desk {
     if line.len() == 0 {
         return d;
     }
@@ -325,9 +325,9 @@ fn turn(state: &mut [u64; 73744], batch: &mut [u64; 6144], d: Desk, line: &[u8])
 }
 
 // All lines of a text.
-fn play_all(state: &mut [u64; 73744], batch: &mut [u64; 6144], text: &[u8]) {
+fn play_all(state: &mut [u64; 48144], batch: &mut [u64; 6144], text: &[u8]) {
     let mut d = Desk {
-        words: 73736,
+        words: 48136,
         room: 4096,
         removals: 0,
         moves: 0,
@@ -342,7 +342,7 @@ fn play_all(state: &mut [u64; 73744], batch: &mut [u64; 6144], text: &[u8]) {
 
 // The script on standard input is played, up to 64 KiB of it.
 pub fn play() {
-    let mut state = [0u64; 73744];
+    let mut state = [0u64; 48144];
     let mut batch = [0u64; 6144];
     let mut text = io::large_buffer();
     let n = io::read_full(STDIN_FILENO, &mut text);

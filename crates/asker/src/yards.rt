@@ -13,9 +13,13 @@ use component::Cell;
 // The stored form of the coordinate 0.
 const ORIGIN: u64 = 2147483648;
 
-// Four cells of grid 1, each touching the next, and two of grid 2 that stand alone. The lists of the second and the third
-// are not in cell order. Entities 3 and 12 share a cell.
-fn few(state: &mut [u64; 73744]) {
+// The bits of the cells one up and one down in x.
+const NEXT: u64 = 8192;
+
+const BEFORE: u64 = 4096;
+
+// Four cells of grid 1, each touching the next, and two of grid 2 that stand alone. Entities 3 and 12 share a cell.
+fn few(state: &mut [u64; 48144]) {
     let a = cell(1, 0, 0, 0);
     let b = cell(1, 1, 0, 0);
     let c = cell(1, 2, 0, 0);
@@ -30,12 +34,12 @@ fn few(state: &mut [u64; 73744]) {
     entity(state, 10, e);
     entity(state, 11, f);
     entity(state, 12, a);
-    occupied(state, a, 4, 14, 0);
-    occupied(state, b, 4, 14, 13);
-    occupied(state, c, 4, 26, 13);
-    occupied(state, d, 4, 1, 0);
-    occupied(state, e, 7, 0, 0);
-    occupied(state, f, 2, 0, 0);
+    occupied(state, a, 4, NEXT);
+    occupied(state, b, 4, NEXT + BEFORE);
+    occupied(state, c, 4, 33554432 + BEFORE);
+    occupied(state, d, 4, 1);
+    occupied(state, e, 7, 0);
+    occupied(state, f, 2, 0);
     group(state, 2, 1, f, f);
     group(state, 4, 4, a, d);
     group(state, 7, 1, e, e);
@@ -46,15 +50,15 @@ fn few(state: &mut [u64; 73744]) {
 }
 
 // One cell with one entity.
-fn lone(state: &mut [u64; 73744], c: Cell) {
+fn lone(state: &mut [u64; 48144], c: Cell) {
     word(state, 6, 1);
     entity(state, 0, c);
-    occupied(state, c, 0, 0, 0);
+    occupied(state, c, 0, 0);
     group(state, 0, 1, c, c);
 }
 
 // Four entities in the cell of a row.
-fn four(state: &mut [u64; 73744], row: u64, c: Cell) {
+fn four(state: &mut [u64; 48144], row: u64, c: Cell) {
     let e = 4 * (row % 1024);
     entity(state, e, c);
     entity(state, e + 1, c);
@@ -67,30 +71,28 @@ fn cell_of_line(x: u64) -> Cell {
     cell(1, x, 0, 0)
 }
 
-// A cell of a line but the last, with the number of the next cell, or 0, and of the one before.
-fn link(state: &mut [u64; 73744], i: u64, next: u64) {
+// A cell of a line but the last, with the bit of the next cell, or 0, and of the one before.
+fn link(state: &mut [u64; 48144], i: u64, next: u64) {
     let c = cell_of_line(i);
     if i == 0 {
-        occupied(state, c, 0, next, 0);
-    } else if next == 0 {
-        occupied(state, c, 0, 13, 0);
+        occupied(state, c, 0, next);
     } else {
-        occupied(state, c, 0, next, 13);
+        occupied(state, c, 0, next | BEFORE);
     }
     four(state, i, c);
 }
 
 // The cells of a line but the last two.
-fn links(state: &mut [u64; 73744], n: u64) {
+fn links(state: &mut [u64; 48144], n: u64) {
     let mut i: u64 = 0;
     while i < n {
-        link(state, i, 14);
+        link(state, i, NEXT);
         i += 1;
     }
 }
 
 // A line of two cells or more. Its last cell touches the one before exactly if x is one more than that one's.
-fn line(state: &mut [u64; 73744], n: u64, x: u64, id: u64) {
+fn line(state: &mut [u64; 48144], n: u64, x: u64, id: u64) {
     if n < 2 || 1024 < n {
         return;
     }
@@ -99,8 +101,8 @@ fn line(state: &mut [u64; 73744], n: u64, x: u64, id: u64) {
     let joined = x == n - 1;
     word(state, 6, 2);
     links(state, n - 2);
-    link(state, n - 2, if joined { 14 } else { 0 });
-    occupied(state, last, id, if joined { 13 } else { 0 }, 0);
+    link(state, n - 2, if joined { NEXT } else { 0 });
+    occupied(state, last, id, if joined { BEFORE } else { 0 });
     four(state, n - 1, last);
     if id == 0 {
         group(state, 0, n, origin, last);
@@ -126,41 +128,36 @@ fn stays(at: u64, step: u64) -> bool {
     (1 <= to) & (to <= 3)
 }
 
-// Whether the neighbour with a number less 1 is in the block; the 14th of the 27 steps leads nowhere and has no number.
-fn leads(k: u64, less: u64) -> bool {
-    let step = if less < 13 { less } else { less % 26 + 1 };
+// Whether the neighbour that a bit tells of is in the block; the 14th of the 27 steps leads nowhere and has no bit.
+fn leads(k: u64, bit: u64) -> bool {
+    let step = if bit < 13 { bit } else { bit % 26 + 1 };
     stays(k, step) & (stays(k / 3, step / 3) & stays(k / 9, step / 9))
 }
 
-// A number comes to stand in a list if its neighbour is in the block; the answer is the next place.
-fn list_number(state: &mut [u64; 73744], at: usize, k: u64, less: u64) -> usize {
-    if at < 73744 && leads(k, less) {
-        state[at] = less % 26 + 1;
-        return at + 1;
-    }
-    at
-}
-
-// The list of the k-th cell of the block, upward or downward.
-fn block_list(state: &mut [u64; 73744], from: usize, k: u64, upward: bool) {
-    let mut at = from;
+// The mask of the k-th cell of the block.
+fn block_mask(k: u64) -> u64 {
+    let mut bits = 0;
     let mut i: u64 = 0;
     while i < 26 {
-        at = list_number(state, at, k, if upward { i } else { 25 - i });
-        i += 1;
+        if leads(k, i) {
+            bits = mask::set(bits, i);
+            i += 1;
+        } else {
+            i += 1;
+        }
     }
+    bits
 }
 
 // The block about 0, 0, 0, one entity in each cell.
-fn block(state: &mut [u64; 73744], upward: bool) {
+fn block(state: &mut [u64; 48144]) {
     word(state, 6, 1);
     group(state, 0, 27, block_cell(0), block_cell(26));
     let mut k: u64 = 0;
     while k < 27 {
         let c = block_cell(k);
         entity(state, k, c);
-        let at = occupied(state, c, 0, 0, 0);
-        block_list(state, at, k, upward);
+        occupied(state, c, 0, block_mask(k));
         k += 1;
     }
 }
@@ -171,14 +168,14 @@ fn spaced(i: u64, by: u64) -> Cell {
 }
 
 // Every table is full. The ids go down where the cells go up.
-fn apart(state: &mut [u64; 73744]) {
+fn apart(state: &mut [u64; 48144]) {
     word(state, 6, 1024);
     let mut i: u64 = 0;
     while i < 1024 {
         let c = spaced(i, 0);
         let opposite = spaced(1023 - i, 0);
         four(state, i, c);
-        occupied(state, c, 1023 - i, 0, 0);
+        occupied(state, c, 1023 - i, 0);
         group(state, i, 1, opposite, opposite);
         newly_occupied(state, c);
         newly_emptied(state, spaced(i, 1));
@@ -187,10 +184,10 @@ fn apart(state: &mut [u64; 73744]) {
 }
 
 // The 4,096 largest numbers of entities, all in one cell.
-fn crowd(state: &mut [u64; 73744]) {
+fn crowd(state: &mut [u64; 48144]) {
     let c = cell(0, 0, 0, 0);
     word(state, 6, 1);
-    occupied(state, c, 0, 0, 0);
+    occupied(state, c, 0, 0);
     group(state, 0, 1, c, c);
     let mut i: u64 = 0;
     while i < 4096 {
@@ -222,7 +219,7 @@ pub fn is_yard(key: u64) -> bool {
 }
 
 // A yard is made; the answer is how many of the given numbers it takes.
-pub fn make(state: &mut [u64; 73744], key: u64, given: &[u64; 32]) -> usize {
+pub fn make(state: &mut [u64; 48144], key: u64, given: &[u64; 32]) -> usize {
     fill(state, 0);
     if key == keys::FEW {
         few(state);
@@ -233,12 +230,11 @@ pub fn make(state: &mut [u64; 73744], key: u64, given: &[u64; 32]) -> usize {
     if key == keys::CROWD {
         crowd(state);
     }
+    if key == keys::BLOCK {
+        block(state);
+    }
     if key == keys::EVERY {
         fill(state, given[0]);
-        return 1;
-    }
-    if key == keys::BLOCK {
-        block(state, given[0] == 1);
         return 1;
     }
     if key == keys::LONE {

@@ -11,11 +11,12 @@ use Rattle.component.specs.Stored.{biased}
 use Rattle.map.specs.Answers.{signedWord}
 use Rattle.ask.specs.declared.Where.{Where}
 use Rattle.ask.specs.declared.IdOf.{IdOf}
+use Rattle.ask.specs.declared.CountOf.{CountOf}
 use Rattle.ask.specs.declared.GroupOf.{GroupOf}
 use Rattle.ask.specs.declared.Listing.{Listing}
 use Rattle.ask.specs.declared.Flooding.{Flooding}
 use Rattle.ask.specs.declared.Depth.{Depth}
-use Rattle.ask.specs.Numbers.{whereNumber, idNumber, groupNumber, listingNumber, floodingNumber}
+use Rattle.ask.specs.Numbers.{whereNumber, idNumber, countNumber, groupNumber, listingNumber, floodingNumber}
 
 -- A coordinate as an answer has it: a word of two's complement.
 abbrev pub axisWord : ℤ → ℕ
@@ -46,6 +47,15 @@ idWords (IdOf.Refused n) = []
 
 abbrev pub idTold : IdOf → ℕ × List ℕ
 idTold a = (idNumber a, idWords a)
+
+-- The neighbour count of a cell: found, how many.
+abbrev pub countWords : CountOf → List ℕ
+countWords (CountOf.Found k) = 1 ∷ k ∷ []
+countWords CountOf.NotFound = 0 ∷ 0 ∷ []
+countWords (CountOf.Refused n) = []
+
+abbrev pub countTold : CountOf → ℕ × List ℕ
+countTold a = (countNumber a, countWords a)
 
 -- An axis of the low corner, 0, or the high one, 1.
 abbrev pub axisAt : List (List ℤ) → ℕ → ℕ → ℕ

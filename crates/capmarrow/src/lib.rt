@@ -1,5 +1,6 @@
 // The calls for programs in C and Rust: numbers and slices alone, each slice a pointer and its length. Every function gives back
 // document 01's number; what else a question tells stands in `told`, and is written only where the number is 0 or 8.
+use ask::CountOf;
 use ask::Depth;
 use ask::Flooding;
 use ask::GroupOf;
@@ -14,8 +15,8 @@ ghost use Prim.Native.Nat.{ℕ, _≤_};
 ghost use lib.ListN.{length};
 ghost use Rattle.fresh.specs.Answer.{freshOf};
 ghost use Rattle.yard.specs.Update.{updateOf};
-ghost use Rattle.ask.specs.Answers.{whereOf, idOf, groupOf, cornersOf, idsOf, occupiedOf, emptiedOf, entitiesOf, nearbyOf, cubeOf, floodOf};
-ghost use Rattle.capmarrow.specs.Told.{axisWord, bit, cellOf, depthGiven, fronted, whereTold, idTold, groupTold, listingTold, floodingTold, telling, tells, tellsFilled};
+ghost use Rattle.ask.specs.Answers.{whereOf, idOf, countOf, groupOf, cornersOf, idsOf, occupiedOf, emptiedOf, entitiesOf, nearbyOf, cubeOf, floodOf};
+ghost use Rattle.capmarrow.specs.Told.{axisWord, bit, cellOf, depthGiven, fronted, whereTold, idTold, countTold, groupTold, listingTold, floodingTold, telling, tells, tellsFilled};
 
 // A coordinate as an answer has it: a word of two's complement.
 fn word(n: i32) -> u64
@@ -100,6 +101,26 @@ fn tell_id(told: &mut [u64], a: IdOf) -> u64
             0
         }
         IdOf::Refused(n) => n,
+    }
+}
+
+// What is told of a cell's neighbour count; the answer is its number.
+fn tell_count(told: &mut [u64], a: CountOf) -> u64
+    requires { ⌜ 2 ≤ length (now told) ⌝ }
+    ensures { λ r. ⌜ _≡_ {A = ℕ × List ℕ} (r, now (told .exit)) (telling (countTold a) (now (told .entry))) ⌝ }
+{
+    match a {
+        CountOf::Found(k) => {
+            let words = [1, k as u64];
+            tell(told, &words);
+            0
+        }
+        CountOf::NotFound => {
+            let words = [0u64; 2];
+            tell(told, &words);
+            0
+        }
+        CountOf::Refused(n) => n,
     }
 }
 
@@ -233,6 +254,24 @@ pub extern "C" fn capmarrow_id_of(
         return 1;
     }
     tell_id(told, ask::id_of(state, cell(grid, x, y, z)))
+}
+
+// How many neighbours of a cell are occupied. Told: found, how many.
+#[no_mangle]
+pub extern "C" fn capmarrow_neighbour_count(
+    state: &[u64],
+    grid: u64,
+    x: i32,
+    y: i32,
+    z: i32,
+    told: &mut [u64],
+) -> u64
+    ensures { λ r. ⌜ _≡_ {A = ℕ × List ℕ} (r, now (told .exit)) (tells 2 (countTold (countOf (now (state .entry)) (cellOf grid x y z))) (now (told .entry))) ⌝ }
+{
+    if told.len() < 2 {
+        return 1;
+    }
+    tell_count(told, ask::neighbour_count(state, cell(grid, x, y, z)))
 }
 
 // A group by id. Told: found, grid, count, low x, y, z, high x, y, z.

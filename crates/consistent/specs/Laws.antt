@@ -3,5 +3,5 @@ pub mod Conjunctions
 pub mod Points
 pub mod Cells
 pub mod Groups
-pub mod Lists
+pub mod Masks
 pub mod Ways

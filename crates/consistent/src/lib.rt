@@ -40,7 +40,7 @@ fn cells_exact(state: &[u64]) -> bool
     if state[1] != state[4] {
         return false;
     }
-    if !is_table4(cells, 30, m) {
+    if !is_table4(cells, 5, m) {
         return false;
     }
     if !is_table4(ids, 5, m) {
@@ -52,13 +52,13 @@ fn cells_exact(state: &[u64]) -> bool
     stood_in(ents, state[0] as usize, cells, m)
 }
 
-// 3. Whether each list holds every touching occupied cell once and no other.
-fn lists_exact(state: &[u64]) -> bool
+// 3. Whether each mask has exactly the bits of touching occupied cells.
+fn masks_exact(state: &[u64]) -> bool
     requires { ⌜ (longEnough (now state) ≡ true) × (point2 (now state) ≡ true) ⌝ }
     ensures { λ r. ⌜ r ≡ point3 (now (state .entry)) ⌝ }
 {
     let cells = &state[CELLS..OCCUPIED];
-    lists_check::lists_right(cells, state[1] as usize)
+    masks_check::masks_right(cells, state[1] as usize)
 }
 
 // 4. Whether ids are shared exactly by joined cells.
@@ -68,7 +68,7 @@ fn ids_shared(state: &[u64]) -> bool
 {
     let cells = &state[CELLS..OCCUPIED];
     let ids = &state[IDS..GROUPS];
-    lists_check::parts_right(cells, ids, state[1] as usize)
+    parts_check::parts_right(cells, ids, state[1] as usize)
 }
 
 // 5. Whether there is one group record for each id that a cell has and no other, its grid, corners and counts exact.
@@ -147,7 +147,7 @@ pub fn consistent(state: &[u64]) -> bool
     if !cells_exact(state) {
         return false;
     }
-    if !lists_exact(state) {
+    if !masks_exact(state) {
         return false;
     }
     if !ids_shared(state) {

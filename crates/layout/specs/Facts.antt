@@ -1,20 +1,17 @@
 -- The facts that the laws of the layout speak of.
 use Prim.Native.Nat.{ℕ, _*_, _≤_}
 use mathlib.Core.Path.{_≡_}
-use mathlib.Core.Bool.{true, _||_}
+use mathlib.Core.Bool.{true}
 use mathlib.Core.List.{List, [], List·Memᴰ as Mem}
 use lib.Dec.{leb}
 use lib.ListN.{length, drop, getD, replicate}
-use Rattle.component.specs.Adjacent.{hasRoom}
-use Rattle.component.specs.Touch.{touches}
-use Rattle.model.specs.Lists.{all, values}
-use Rattle.model.specs.Cells.{Cell, touch26}
+use Rattle.model.specs.Cells.{touch26}
 use Rattle.model.specs.Update.{State, mostEntities, mostCells}
 use Rattle.model.specs.Consistent.{consistent}
-use Rattle.table.specs.Rows.{areZero, table4}
+use Rattle.table.specs.Rows.{areZero}
 use Rattle.layout.specs.Rows.{entitiesImage, cellsImage, netImage, idsImage, groupsImage}
 use Rattle.layout.specs.State.{entitiesLen, cellsLen, netLen, idsLen, groupsLen, decode, entityWords, cellWords, occupiedWords, emptiedWords, idWords, groupWords, entityCount, cellCount, occupiedCount, emptiedCount, idCount, groupCount, nextId}
-use Rattle.layout.specs.Points.{tidy, listTidy}
+use Rattle.layout.specs.Points.{tidy}
 
 -- From the place f on the list w is r.
 pub record From (w : List ℕ) (f : ℕ) (r : List ℕ) : Type 0 where
@@ -43,30 +40,19 @@ Any a = Unit {0}
 abbrev pub Anyhow : ℕ → List ℕ → Type 0
 Anyhow n s = Unit {0}
 
--- A list that can be written: its cell has room, its cells touch it, and it has at most 26.
-pub record Listed (p : Cell × List Cell) : Type 0 where
-  pub room : hasRoom 1 (p .0) ≡ true
-  pub touching : (d : Cell) → Mem d (p .1) → touches (p .0) d ≡ true
-  pub few : length (p .1) ≤ 26
-
--- Each row's list is tidy, and empty where the row's cell has no room.
-abbrev pub Tidied : ℕ → List ℕ → Type 0
-Tidied n s = (p : Cell × List ℕ) → Mem p (table4 30 n s) → (listTidy (p .1) ≡ true) × ((hasRoom 1 (p .0) || areZero (p .1)) ≡ true)
-
--- Each table has at most its most rows, and each list can be written.
+-- Each table has at most its most rows.
 pub record Fits (s : State) : Type 0 where
   pub entities : length (s .occupancy .entities) ≤ mostEntities
-  pub cells : length (s .occupancy .lists) ≤ mostCells
+  pub cells : length (s .occupancy .masks) ≤ mostCells
   pub newly-occupied : length (s .occupancy .newlyOccupied) ≤ mostCells
   pub newly-emptied : length (s .occupancy .newlyEmptied) ≤ mostCells
   pub ids : length (s .groups .ids) ≤ mostCells
   pub groups : length (s .records) ≤ mostCells
-  pub lists : (p : Cell × List Cell) → Mem p (s .occupancy .lists) → Listed p
 
 -- The words w begin with the image of the state s.
 pub record Stands (s : State) (w : List ℕ) : Type 0 where
   pub entity-count : entityCount w ≡ length (s .occupancy .entities)
-  pub cell-count : cellCount w ≡ length (s .occupancy .lists)
+  pub cell-count : cellCount w ≡ length (s .occupancy .masks)
   pub occupied-count : occupiedCount w ≡ length (s .occupancy .newlyOccupied)
   pub emptied-count : emptiedCount w ≡ length (s .occupancy .newlyEmptied)
   pub id-count : idCount w ≡ length (s .groups .ids)
@@ -74,7 +60,7 @@ pub record Stands (s : State) (w : List ℕ) : Type 0 where
   pub next-id : nextId w ≡ s .groups .next
   pub last-zero : getD w 7 0 ≡ 0
   pub entity-words : entityWords w ≡ entitiesImage entitiesLen (s .occupancy .entities)
-  pub cell-words : cellWords w ≡ cellsImage cellsLen (s .occupancy .lists)
+  pub cell-words : cellWords w ≡ cellsImage cellsLen (s .occupancy .masks)
   pub occupied-words : occupiedWords w ≡ netImage netLen (s .occupancy .newlyOccupied)
   pub emptied-words : emptiedWords w ≡ netImage netLen (s .occupancy .newlyEmptied)
   pub id-words : idWords w ≡ idsImage idsLen (s .groups .ids)
@@ -85,9 +71,8 @@ pub record Orderly (w : List ℕ) : Type 0 where
   pub last : getD w 7 0 ≡ 0
   pub entity-rows : tidy 5 mostEntities (entityCount w) (entityWords w) ≡ true
   pub cell-few : leb (cellCount w) mostCells ≡ true
-  pub cell-rows : tidy 30 mostCells (cellCount w) (cellWords w) ≡ true
+  pub cell-rows : tidy 5 mostCells (cellCount w) (cellWords w) ≡ true
   pub id-rows : tidy 5 mostCells (idCount w) (idWords w) ≡ true
-  pub list-rows : all listTidy (values (table4 30 (cellCount w) (cellWords w))) ≡ true
   pub group-rows : tidy 9 mostCells (groupCount w) (groupWords w) ≡ true
   pub occupied-rows : tidy 4 mostCells (occupiedCount w) (occupiedWords w) ≡ true
   pub emptied-rows : tidy 4 mostCells (emptiedCount w) (emptiedWords w) ≡ true

@@ -2,22 +2,17 @@
 use Prim.Native.Nat.{ℕ, _*_}
 use mathlib.Core.Bool.{Bool, _&&_}
 use mathlib.Core.List.{List}
-use lib.Dec.{eqb, leb, ltb}
+use lib.Dec.{eqb, leb}
 use lib.ListN.{length, getD, drop}
-use Rattle.model.specs.Lists.{all, whilst, values}
 use Rattle.model.specs.Cells.{touch26}
 use Rattle.model.specs.Update.{mostEntities, mostCells}
-use Rattle.model.specs.Consistent.{withinNumber, cellsExact, listsExact, idsShared, recordsExact, idsBelowNext, coordinatesInRange, netsInOrder}
-use Rattle.table.specs.Rows.{areZero, table4}
+use Rattle.model.specs.Consistent.{withinNumber, cellsExact, masksExact, idsShared, recordsExact, idsBelowNext, coordinatesInRange, netsInOrder}
+use Rattle.table.specs.Rows.{areZero}
 use Rattle.layout.specs.State.{decode, stateLen, entityWords, cellWords, occupiedWords, emptiedWords, idWords, groupWords, entityCount, cellCount, occupiedCount, emptiedCount, idCount, groupCount}
 
 -- Whether a table of rows of width w counts at most `most` rows and has zeros behind them.
 abbrev pub tidy : ℕ → ℕ → ℕ → List ℕ → Bool
 tidy w most n s = leb n most && areZero (drop (w * n) s)
-
--- Whether a list's words are numbers of neighbours up to the first zero, and zeros from there on.
-abbrev pub listTidy : List ℕ → Bool
-listTidy ws = all (λ n. leb n 26) ws && areZero (drop (length (whilst (ltb 0) ws)) ws)
 
 -- 1. Entities distinct, they and the occupied cells within number. Here too: the entity rows and the header's last word.
 unfoldable pub point1 : List ℕ → Bool
@@ -29,12 +24,12 @@ point1 w =
 -- 2. The cells with an id, each held once, are exactly those an entity stands in. Here too: the rows of cells and of ids.
 unfoldable pub point2 : List ℕ → Bool
 point2 w =
-    tidy 30 mostCells (cellCount w) (cellWords w)
+    tidy 5 mostCells (cellCount w) (cellWords w)
     && (tidy 5 mostCells (idCount w) (idWords w) && cellsExact (decode w))
 
--- 3. Each list holds every touching occupied cell once and no other. Here too: the words of the lists.
+-- 3. Each mask has exactly the bits of touching occupied cells.
 unfoldable pub point3 : List ℕ → Bool
-point3 w = all listTidy (values (table4 30 (cellCount w) (cellWords w))) && listsExact touch26 (decode w)
+point3 w = masksExact touch26 (decode w)
 
 -- 4. Ids shared exactly by joined cells.
 unfoldable pub point4 : List ℕ → Bool

@@ -1,13 +1,12 @@
 -- How the rows of the model's tables stand in words, and how they are read back.
-use Prim.Native.Nat.{ℕ, suc, _+_, _-_, _*_}
-use mathlib.Core.Bool.{cond}
-use mathlib.Core.List.{List, [], _∷_, _++_}
-use lib.ListN.{length, getD, replicate}
-use lib.Dec.{ltb}
+use Prim.Native.Nat.{ℕ, suc, _+_, _-_}
+use mathlib.Core.List.{List, [], _∷_}
+use lib.ListN.{getD}
 use Rattle.component.specs.Adjacent.{adjacentOf}
 use Rattle.component.specs.declared.Neighbour.{Neighbour}
 use Rattle.component.specs.declared.Neighbour.the-variants.{Is, Nothing}
-use Rattle.model.specs.Lists.{each, whilst, keys}
+use Rattle.model.specs.Lists.{each, keys}
+use Rattle.model.specs.Places.{slot}
 use Rattle.model.specs.Cells.{Cell}
 use Rattle.model.specs.Groups.{Corner, Group}
 use Rattle.table.specs.Rows.{cellAt, cellWords, table1, table4, image1, image4}
@@ -19,19 +18,11 @@ entityRow p = (p .0, cellWords (p .1))
 abbrev pub entityOf : ℕ × List ℕ → ℕ × Cell
 entityOf p = (p .0, cellAt (p .1) 0)
 
--- The most cells of a list.
-abbrev pub listLen : ℕ
-listLen = 26
-
--- The place of d in the block of 27 about c.
-abbrev pub placeIn : Cell → Cell → ℕ
-placeIn c d = ((d .z + 1 - c .z) * 3 + (d .y + 1 - c .y)) * 3 + (d .x + 1 - c .x)
-
--- The number of a neighbour of c in lists, 1 to 26: its place among the neighbours, from 1.
+-- The number of a neighbour of c, 1 to 26: its place among the neighbours, from 1.
 abbrev pub numberOf : Cell → Cell → ℕ
-numberOf c d = cond (ltb (placeIn c d) 13) (suc (placeIn c d)) (placeIn c d)
+numberOf c d = suc (slot c d)
 
--- A neighbour that is there; c itself, which touches no list's cell, where there is none.
+-- A neighbour that is there; c itself, which touches no other cell of its own, where there is none.
 abbrev pub orSelf : Cell → Neighbour → Cell
 orSelf c (Is d) = d
 orSelf c Nothing = c
@@ -40,26 +31,11 @@ orSelf c Nothing = c
 abbrev pub neighbourOf : Cell → ℕ → Cell
 neighbourOf c n = orSelf c (adjacentOf 1 c (n - 1))
 
--- A list's words: the numbers in list order, then zeros; 26 words.
-abbrev pub listWords : Cell → List Cell → List ℕ
-listWords c l = each (numberOf c) l ++ replicate (listLen - length l) 0
-
--- The list that words stand for: the neighbours up to the first zero.
-abbrev pub listCells : Cell → List ℕ → List Cell
-listCells c ws = each (neighbourOf c) (whilst (ltb 0) ws)
-
--- An occupied cell's row: the cell, then its list; 30 words.
-abbrev pub cellRow : Cell × List Cell → Cell × List ℕ
-cellRow p = (p .0, listWords (p .0) (p .1))
-
-abbrev pub cellOf : Cell × List ℕ → Cell × List Cell
-cellOf p = (p .0, listCells (p .0) (p .1))
-
 -- A net list's row: the cell; 4 words.
 abbrev pub netRow : Cell → Cell × List ℕ
 netRow c = (c, [])
 
--- The row of a cell with an id: the cell, then the id; 5 words.
+-- The row of an occupied cell with its mask, or of a cell with an id: the cell, then the number; 5 words.
 abbrev pub idRow : Cell × ℕ → Cell × List ℕ
 idRow p = (p .0, p .1 ∷ [])
 
@@ -84,8 +60,8 @@ groupOf p = (p .0, record { grid = getD (p .1) 0 0; count = getD (p .1) 1 0; low
 unfoldable pub entitiesImage : ℕ → List (ℕ × Cell) → List ℕ
 entitiesImage len t = image1 len (each entityRow t)
 
-unfoldable pub cellsImage : ℕ → List (Cell × List Cell) → List ℕ
-cellsImage len t = image4 len (each cellRow t)
+unfoldable pub cellsImage : ℕ → List (Cell × ℕ) → List ℕ
+cellsImage len t = image4 len (each idRow t)
 
 unfoldable pub netImage : ℕ → List Cell → List ℕ
 netImage len l = image4 len (each netRow l)
@@ -100,8 +76,8 @@ groupsImage len t = image1 len (each groupRow t)
 unfoldable pub entitiesIn : ℕ → List ℕ → List (ℕ × Cell)
 entitiesIn n s = each entityOf (table1 5 n s)
 
-unfoldable pub cellsIn : ℕ → List ℕ → List (Cell × List Cell)
-cellsIn n s = each cellOf (table4 30 n s)
+unfoldable pub cellsIn : ℕ → List ℕ → List (Cell × ℕ)
+cellsIn n s = each idOf (table4 5 n s)
 
 unfoldable pub netIn : ℕ → List ℕ → List Cell
 netIn n s = keys (table4 4 n s)

@@ -10,9 +10,9 @@ use Rattle.layout.specs.Rows.{entitiesImage, cellsImage, netImage, idsIm
 unfoldable pub entitiesLen : ℕ
 entitiesLen = 20480
 
--- 1,024 occupied cells with their lists, of 30 words.
+-- 1,024 occupied cells with their masks, of 5 words.
 unfoldable pub cellsLen : ℕ
-cellsLen = 30720
+cellsLen = 5120
 
 -- 1,024 cells of 4 words, for each net list.
 unfoldable pub netLen : ℕ
@@ -34,24 +34,24 @@ unfoldable pub cellsFrom : ℕ
 cellsFrom = 20488
 
 unfoldable pub occupiedFrom : ℕ
-occupiedFrom = 51208
+occupiedFrom = 25608
 
 unfoldable pub emptiedFrom : ℕ
-emptiedFrom = 55304
+emptiedFrom = 29704
 
 unfoldable pub idsFrom : ℕ
-idsFrom = 59400
+idsFrom = 33800
 
 unfoldable pub groupsFrom : ℕ
-groupsFrom = 64520
+groupsFrom = 38920
 
 unfoldable pub stateLen : ℕ
-stateLen = 73736
+stateLen = 48136
 
 -- The header of a state.
 abbrev pub header : State → List ℕ
 header s =
-    length (s .occupancy .entities) ∷ length (s .occupancy .lists)
+    length (s .occupancy .entities) ∷ length (s .occupancy .masks)
     ∷ length (s .occupancy .newlyOccupied) ∷ length (s .occupancy .newlyEmptied)
     ∷ length (s .groups .ids) ∷ length (s .records) ∷ s .groups .next ∷ 0 ∷ []
 
@@ -60,7 +60,7 @@ unfoldable pub encode : State → List ℕ
 encode s =
     header s
     ++ (entitiesImage entitiesLen (s .occupancy .entities)
-    ++ (cellsImage cellsLen (s .occupancy .lists)
+    ++ (cellsImage cellsLen (s .occupancy .masks)
     ++ (netImage netLen (s .occupancy .newlyOccupied)
     ++ (netImage netLen (s .occupancy .newlyEmptied)
     ++ (idsImage idsLen (s .groups .ids)
@@ -113,7 +113,7 @@ decode w =
     record {
       occupancy = record {
         entities = entitiesIn (entityCount w) (entityWords w);
-        lists = cellsIn (cellCount w) (cellWords w);
+        masks = cellsIn (cellCount w) (cellWords w);
         newlyOccupied = netIn (occupiedCount w) (occupiedWords w);
         newlyEmptied = netIn (emptiedCount w) (emptiedWords w);
       };

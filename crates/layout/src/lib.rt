@@ -1,4 +1,4 @@
-// The words of the state: the length that number 1 speaks of, and the numbers that stand for neighbours in lists.
+// The words of the state: the length that number 1 speaks of, and the numbers that stand for neighbours.
 use component::Cell;
 use component::Neighbour;
 use component::adjacent;
@@ -12,16 +12,16 @@ pub const ENTITIES: usize = 8;
 
 pub const CELLS: usize = 20488;
 
-pub const OCCUPIED: usize = 51208;
+pub const OCCUPIED: usize = 25608;
 
-pub const EMPTIED: usize = 55304;
+pub const EMPTIED: usize = 29704;
 
-pub const IDS: usize = 59400;
+pub const IDS: usize = 33800;
 
-pub const GROUPS: usize = 64520;
+pub const GROUPS: usize = 38920;
 
 // How many words a state has, which is where the last table ends.
-pub const STATE_LEN: usize = 73736;
+pub const STATE_LEN: usize = 48136;
 
 // How many words a state has.
 pub fn state_len() -> usize
@@ -47,7 +47,7 @@ fn or_self(c: Cell, a: Neighbour) -> Cell
     }
 }
 
-// The neighbour of c with a number of lists.
+// The neighbour of c with a number from 1.
 pub fn neighbour_of(c: Cell, n: u64) -> Cell
     ensures { λ r. ⌜ r ≡ neighbourOf c n ⌝ }
 {

@@ -1,4 +1,3 @@
-pub mod RowWords
 pub mod Steps
 pub mod Entries
 pub mod Lookups

@@ -31,7 +31,7 @@ both-marks true false v w = refl
 both-marks false true v w = refl
 both-marks false false v w = refl
 
-module _ (words : List ℕ) (n : ℕ) (t : List (Cell × List Cell)) (k : Cells words n t) where
+module _ (words : List ℕ) (n : ℕ) (t : List (Cell × ℕ)) (k : Cells words n t) where
   -- A row is among some rows if its cell is among their cells.
   pub has-row : (R : List ℕ) → ((j : ℕ) → Mem j R → j < n) → (j : ℕ) → j < n → has eqb R j ≡ has same (each (rowCell words) R) (rowCell words j)
   has-row R u j h =

@@ -120,9 +120,9 @@ module _ (o : Occupancy) (e : ℕ) (d : Cell) where
       go true = omega arith
       go false = keep-shorter (λ c. not (same d c)) (o .newlyOccupied)
 
-  lists-shorter : length (leave touch26 e d o .lists) ≤ length (o .lists)
+  lists-shorter : length (leave touch26 e d o .masks) ≤ length (o .masks)
   lists-shorter =
-      omega (arith, keys-length (leave touch26 e d o .lists), keys-length (o .lists), ap length (occupied-leave touch26 e d o), go (standsIn (dropKey eqb e (o .entities)) d))
+      omega (arith, keys-length (leave touch26 e d o .masks), keys-length (o .masks), ap length (occupied-leave touch26 e d o), go (standsIn (dropKey eqb e (o .entities)) d))
     where
       go : (b : Bool) → length (cond b (occupied o) (without same d (occupied o))) ≤ length (occupied o)
       go true = omega arith

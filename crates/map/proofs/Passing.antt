@@ -32,9 +32,9 @@ abbrev number-of : Cell → ℕ → List ℕ
 number-of c k = k ∷ []
 
 -- The number of cells is that of the rows of the crowd.
-crowd-length : (o : Occupancy) → Placed o → length (each idRow (crowdOf o)) ≡ length (o .lists)
+crowd-length : (o : Occupancy) → Placed o → length (each idRow (crowdOf o)) ≡ length (o .masks)
 crowd-length o ok =
-    each-length idRow (crowdOf o) ∙ sym (keys-length (crowdOf o)) ∙ ap length (crowd-keys touch26 o (ok .sound)) ∙ keys-length (o .lists)
+    each-length idRow (crowdOf o) ∙ sym (keys-length (crowdOf o)) ∙ ap length (crowd-keys touch26 o (ok .sound)) ∙ keys-length (o .masks)
 
 -- The same counts with another number of entities.
 abbrev pub counting : ℕ → Counts → Counts
@@ -44,7 +44,7 @@ counting a n = record { entities = a; cells = n .cells; occupied = n .occupied; 
 pub stored-but : (cells occ emp : List ℕ) (n : Counts) (a : ℕ) (t : List (ℕ × Cell)) (o : Occupancy) → Stored cells occ emp n o → Stored cells occ emp (counting a n) (withEntities t o)
 stored-but cells occ emp n a t o x =
     record {
-      lists = x .lists;
+      masks = x .masks;
       opened = x .opened;
       emptied = x .emptied;
       cells-count = x .cells-count;

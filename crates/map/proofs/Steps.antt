@@ -3,17 +3,17 @@ use Prim.Native.Nat.{ℕ, suc, _+_, _-_, _*_, _≤_}
 use native.Mathlib.Omega.{arith}
 use mathlib.Core.Path.{_≡_, refl, sym, ap, _∙_, subst}
 use mathlib.Core.Bool.{Bool, true, false, cond, not}
-use mathlib.Core.List.{List, [], _∷_, _++_, List·Memᴰ as Mem}
+use mathlib.Core.List.{List, [], _∷_, _++_, append-assoc, List·Memᴰ as Mem}
 use mathlib.Core.Option.{some}
-use lib.Dec.{eqb}
-use lib.ListN.{length, take, drop, replicate, length-append, length-drop, length-replicate}
-use lib.Seq.{length-take-le, drop-drop, take-at, drop-at, getD-take}
+use lib.ListN.{length, take, drop, getD, set, length-append, length-drop}
+use lib.Seq.{length-take-le, take-suc, take-take, take-add, take-at, drop-at, getD-take, getD-drop, append-snoc, set-split}
 use Rattle.component.specs.Order.{same, below}
 use Rattle.component.specs.declared.Cell.{Cell}
-use Rattle.model.specs.Lists.{keep, has, keys, put, dropKey, change}
+use Rattle.model.specs.Lists.{has, each, keys, put, dropKey, change}
+use Rattle.model.specs.Masks.{withBit, withoutBit}
 use Rattle.model.specs.Laws.Tests.{T-true}
 use Rattle.model.specs.Laws.Orders.{cells}
-use Rattle.model.specs.Laws.Members.{of-hasnt, keep-shorter}
+use Rattle.model.specs.Laws.Members.{of-hasnt, each-length}
 use Rattle.model.specs.Laws.Tables.{At, free-of, key-free, drop-free, asc-fair, free-key}
 use Rattle.table.specs.declared.Place.the-variants.{Found, Missing}
 use Rattle.table.specs.Moves.{over}
@@ -24,7 +24,7 @@ use Rattle.table.specs.Laws.Images.{table-facts}
 use Rattle.table.specs.Laws.Answers.{found-below, found-is, found-rest, missing-none}
 use Rattle.table.specs.Laws.Next.{put-next, drop-next}
 use Rattle.table.proofs.Ways.{put-stored}
-use Rattle.map.specs.Told.{Shows, appended, stripped, revised, revisedRow, toldOne}
+use Rattle.map.specs.Told.{Shows, revisedMask, revised, revisedRow, toldOne}
 use Rattle.map.specs.Laws.Tables.{put-is-change, change-missing}
 
 -- A row that is written over the row of its cell leaves the table with it.
@@ -35,55 +35,57 @@ put-found w n s r i wide =
     → (n, u) ≡ stored4 (length s) (put below (cellAt r 0) (drop 4 r) (table4 v n s))) wide
     (λ ok e u q. ap (λ (v : List ℕ). (n, v)) q ∙ put-stored cell n s r cell-lawful ok (Found i) e)
 
--- A part that was lent and came back stands over what it was.
-pub part-over : (g : List ℕ → List ℕ) (s y : List ℕ) (a m w : ℕ) → m ≡ w → a + w ≤ length s → length y ≡ length (take m (drop a s)) → y ≡ g (take m (drop a s))
-    → take a s ++ (y ++ drop m (drop a s)) ≡ over s a (g (take w (drop a s)))
-unfolding over
-part-over g s y a m w q h l e =
-    let f : y ≡ g (take w (drop a s)) = e ∙ ap (λ (n : ℕ). g (take n (drop a s))) q in
-    let k : length (take w (drop a s)) ≡ w = length-take-le w (drop a s) (omega (arith, length-drop a s)) in
-    let j : length y ≡ w = l ∙ ap (λ (n : ℕ). length (take n (drop a s))) q ∙ k in
-    let d : drop m (drop a s) ≡ drop (a + length y) s = drop-drop m a s ∙ ap (λ (n : ℕ). drop (a + n) s) (q ∙ sym j) in
-    ap (λ (x : List ℕ). take a s ++ (y ++ x)) d ∙ ap (λ (x : List ℕ). take a s ++ (x ++ drop (a + length x) s)) f
+-- A word that is written in the place of a mask stands in its row, over what the row was.
+pub word-over : (s : List ℕ) (i : ℕ) (joins : Bool) (w v : ℕ) → 5 * i + 5 ≤ length s → v ≡ revisedMask joins w (getD s (5 * i + 4) 0)
+    → set s (5 * i + 4) v ≡ over s (5 * i) (revisedRow joins w (take 5 (drop (5 * i) s)))
+unfolding over revisedRow revised
+word-over s i joins w v h e =
+    let a : ℕ = 5 * i in
+    let d : List ℕ = drop a s in
+    let l = length-drop a s in
+    let four : length (take 4 d) ≡ 4 = length-take-le 4 d (omega arith) in
+    let row : take 5 d ≡ take 4 d ++ (getD d 4 0 ∷ []) = take-suc d 4 0 (omega arith) in
+    let front : take 4 (take 5 d) ≡ take 4 d = take-take 4 5 d (omega arith) in
+    let back : drop 4 (take 5 d) ≡ getD s (a + 4) 0 ∷ [] = ap (drop 4) row ∙ drop-at (take 4 d) (getD d 4 0 ∷ []) 4 four ∙ ap (λ (n : ℕ). n ∷ []) (getD-drop a s 4 0) in
+    let new : take 4 (take 5 d) ++ each (revisedMask joins w) (drop 4 (take 5 d)) ≡ take 4 d ++ (v ∷ []) = (λ k. front k ++ each (revisedMask joins w) (back k)) ∙ ap (λ (n : ℕ). take 4 d ++ (n ∷ [])) (sym e) in
+    let five : a + length (take 4 d ++ (v ∷ [])) ≡ suc (a + 4) = omega (arith, length-append (take 4 d) (v ∷ []), four) in
+    set-split s (a + 4) v (omega arith)
+    ∙ ap (λ (x : List ℕ). x ++ (v ∷ drop (suc (a + 4)) s)) (take-add a 4 s)
+    ∙ append-assoc (take a s) (take 4 d) (v ∷ drop (suc (a + 4)) s)
+    ∙ ap (λ (x : List ℕ). take a s ++ x) (sym (append-snoc (take 4 d) v (drop (suc (a + 4)) s)))
+    ∙ ap (λ (n : ℕ). take a s ++ ((take 4 d ++ (v ∷ [])) ++ drop n s)) (sym five)
+    ∙ ap (λ (x : List ℕ). take a s ++ (x ++ drop (a + length x) s)) (sym new)
 
 module _ (w n : ℕ) (s : List ℕ) (ok : isTable4 w n s ≡ true) (d : Cell) (i : ℕ) where
   -- A cell that is missing is not among the keys.
   missing-out : Missing i ≡ placeOf below (keys (table4 w n s)) d → Mem d (keys (table4 w n s)) → ⊥
   missing-out e = key-free cells (table4 w n s) (free-of (table4 w n s) d (missing-none cell cell-lawful w n s d i ok e))
 
--- The list of a row is as long as it was.
-appended-length : (w : ℕ) (ws : List ℕ) → length (appended w ws) ≡ length ws
-unfolding appended
-appended-length w [] = refl
-appended-length w (x ∷ ws) = go (eqb x 0) (appended-length w ws)
-  where
-    go : (b : Bool) → length (appended w ws) ≡ length ws → length (cond b (w ∷ ws) (x ∷ appended w ws)) ≡ suc (length ws)
-    go true e = refl
-    go false e = ap suc e
+-- Either way out of a mask that is revised.
+pub set-is : (w m : ℕ) (joins : Bool) → joins ≡ true → withBit m w ≡ revisedMask joins w m
+unfolding revisedMask
+set-is w m joins e = ap (λ (b : Bool). cond b (withBit m w) (withoutBit m w)) (sym e)
 
-stripped-length : (w : ℕ) (ws : List ℕ) → length (stripped w ws) ≡ length ws
-unfolding stripped
-stripped-length w ws =
-    let p : ℕ → Bool = λ v. not (eqb w v) in
-    length-append (keep p ws) (replicate (length ws - length (keep p ws)) 0)
-    ∙ omega (arith, keep-shorter p ws, length-replicate {A = ℕ} (length ws - length (keep p ws)) 0)
+pub clear-is : (w m : ℕ) (joins : Bool) → joins ≡ false → withoutBit m w ≡ revisedMask joins w m
+unfolding revisedMask
+clear-is w m joins e = ap (λ (b : Bool). cond b (withBit m w) (withoutBit m w)) (sym e)
 
+-- A row keeps its length.
 revised-length : (joins : Bool) (w : ℕ) (ws : List ℕ) → length (revised joins w ws) ≡ length ws
 unfolding revised
-revised-length true w ws = appended-length w ws
-revised-length false w ws = stripped-length w ws
+revised-length joins w ws = each-length (revisedMask joins w) ws
 
-module _ (n : ℕ) (s : List ℕ) (ok : isTable4 30 n s ≡ true) (joins : Bool) (d : Cell) (w i : ℕ) where
+module _ (n : ℕ) (s : List ℕ) (ok : isTable4 5 n s ≡ true) (joins : Bool) (d : Cell) (w i : ℕ) where
   abbrev row : List ℕ
-  row = take 30 (drop (30 * i) s)
+  row = take 5 (drop (5 * i) s)
 
-  module _ (e : Found i ≡ placeOf below (keys (table4 30 n s)) d) where
+  module _ (e : Found i ≡ placeOf below (keys (table4 5 n s)) d) where
     -- The row that is found is within the words.
-    pub found-row : 30 * i + 30 ≤ length s
-    found-row = omega (arith, row-fits 30 n i (found-below cell cell-lawful 30 n s d i e), table-facts cell 30 n s ok .fits)
+    pub found-row : 5 * i + 5 ≤ length s
+    found-row = omega (arith, row-fits 5 n i (found-below cell cell-lawful 5 n s d i e), table-facts cell 5 n s ok .fits)
 
-    row-length : length row ≡ 30
-    row-length = length-take-le 30 (drop (30 * i) s) (omega (arith, length-drop (30 * i) s, found-row))
+    row-length : length row ≡ 5
+    row-length = length-take-le 5 (drop (5 * i) s) (omega (arith, length-drop (5 * i) s, found-row))
 
     front : take 4 (revisedRow joins w row) ≡ take 4 row
     unfolding revisedRow
@@ -93,7 +95,7 @@ module _ (n : ℕ) (s : List ℕ) (ok : isTable4 30 n s ≡ true) (joins : Bool)
     unfolding revisedRow
     back = drop-at (take 4 row) (revised joins w (drop 4 row)) 4 (length-take-le 4 row (omega (arith, row-length)))
 
-    wide : length (revisedRow joins w row) ≡ 30
+    wide : length (revisedRow joins w row) ≡ 5
     unfolding revisedRow
     wide =
         length-append (take 4 row) (revised joins w (drop 4 row))
@@ -110,28 +112,28 @@ module _ (n : ℕ) (s : List ℕ) (ok : isTable4 30 n s ≡ true) (joins : Bool)
     keyed : cellAt (revisedRow joins w row) 0 ≡ d
     keyed =
         cell-front (revisedRow joins w row) ∙ ap (λ (r : List ℕ). cellAt r 0) front ∙ sym (cell-front row)
-        ∙ sym (key-at cell 30 n s i d (found-below cell cell-lawful 30 n s d i e)) ∙ found-is cell cell-lawful 30 n s d i d e
+        ∙ sym (key-at cell 5 n s i d (found-below cell cell-lawful 5 n s d i e)) ∙ found-is cell cell-lawful 5 n s d i d e
 
-    stands : At same (table4 30 n s) d (drop 4 row)
-    stands = record { is = found-rest cell cell-lawful 30 n s d i ok e ∙ ap (λ (r : List ℕ). some (drop 4 r)) (row-at 30 n s i (found-below cell cell-lawful 30 n s d i e)) }
+    stands : At same (table4 5 n s) d (drop 4 row)
+    stands = record { is = found-rest cell cell-lawful 5 n s d i ok e ∙ ap (λ (r : List ℕ). some (drop 4 r)) (row-at 5 n s i (found-below cell cell-lawful 5 n s d i e)) }
 
     -- The row that is found is revised.
-    pub told-found : (u : List ℕ) → u ≡ over s (30 * i) (revisedRow joins w (take 30 (drop (30 * i) s))) → Shows cell 30 n u (change (toldOne joins d w) (table4 30 n s))
+    pub told-found : (u : List ℕ) → u ≡ over s (5 * i) (revisedRow joins w (take 5 (drop (5 * i) s))) → Shows cell 5 n u (change (toldOne joins d w) (table4 5 n s))
     unfolding toldOne
     told-found u q =
         let r : List ℕ = revisedRow joins w row in
-        let st = put-found 30 n s r i wide ok (e ∙ ap (placeOf below (keys (table4 30 n s))) (sym keyed)) u q in
-        let nx = put-next cell 30 cell-lawful n s ok (length s) n u (cellAt r 0) (drop 4 r) (omega (arith, length-drop 4 r, wide)) st in
+        let st = put-found 5 n s r i wide ok (e ∙ ap (placeOf below (keys (table4 5 n s))) (sym keyed)) u q in
+        let nx = put-next cell 5 cell-lawful n s ok (length s) n u (cellAt r 0) (drop 4 r) (omega (arith, length-drop 4 r, wide)) st in
         record {
           table = nx .0;
-          is = nx .1 ∙ (λ j. put below (keyed j) (back j) (table4 30 n s))
-              ∙ put-is-change cells d (revised joins w) (table4 30 n s) (drop 4 row) (table-facts cell 30 n s ok .asc) stands;
+          is = nx .1 ∙ (λ j. put below (keyed j) (back j) (table4 5 n s))
+              ∙ put-is-change cells d (revised joins w) (table4 5 n s) (drop 4 row) (table-facts cell 5 n s ok .asc) stands;
         }
 
   -- The cell is missing, and nothing is revised.
-  pub told-missing : Missing i ≡ placeOf below (keys (table4 30 n s)) d → Shows cell 30 n s (change (toldOne joins d w) (table4 30 n s))
+  pub told-missing : Missing i ≡ placeOf below (keys (table4 5 n s)) d → Shows cell 5 n s (change (toldOne joins d w) (table4 5 n s))
   unfolding toldOne
-  told-missing e = record { table = ok; is = sym (change-missing cells d (revised joins w) (table4 30 n s) (missing-out 30 n s ok d i e)) }
+  told-missing e = record { table = ok; is = sym (change-missing cells d (revised joins w) (table4 5 n s) (missing-out 5 n s ok d i e)) }
 
 module _ (n m : ℕ) (from to : List ℕ) (c : Cell) (okf : isTable4 4 n from ≡ true) (okt : isTable4 4 m to ≡ true) where
   abbrev left : List (Cell × List ℕ)

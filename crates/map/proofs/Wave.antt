@@ -12,20 +12,23 @@ use lib.Dec.{eqb}
 use lib.ListN.{length, take, drop, getD, set, length-set, length-append, length-drop, take-append-drop, List·getD-append, drop-of-length-le}
 use lib.Seq.{length-take-le, getD-take, take-suc, drop-cons, take-append-le, drop-append-le, take-all, drop-set-lt, drop-drop, set-set, set-getD}
 use Rattle.model.specs.Lists.{keep, has, each, keys}
-use Rattle.model.specs.Cells.{Cell, same}
-use Rattle.model.specs.Flood.{listOf, visit}
+use Rattle.model.specs.Cells.{Cell, same, touch26}
+use Rattle.model.specs.Masks.{bit, touching, leadsTo}
+use Rattle.model.specs.Flood.{visit}
 use Rattle.model.specs.Laws.Orders.{cells}
 use Rattle.model.specs.Laws.Members.{keep-ext, keep-each, keep-out, each-in, each-out, each-append, each-length, Once, once-nil, once-cons, once-keep, once-append, once-shorter}
 use Rattle.model.specs.Laws.Sorted.{asc-once}
 use Rattle.model.specs.Laws.Minus.{minus, minus-out}
 use Rattle.model.specs.Laws.Visits.{visit-queued, visit-closed}
 use Rattle.model.specs.Laws.Floods.{visit-first}
+use Rattle.model.specs.Places.{offsetAt}
+use Rattle.table.specs.Rows.{table4}
 use Rattle.layout.specs.Rows.{cellsIn}
-use Rattle.map.specs.Rows.{rowCell, onward}
+use Rattle.map.specs.Rows.{rowCell, rowMask, rowNear, rowFor, onward}
 use Rattle.map.specs.Fronts.{Front, front, pushed}
 use Rattle.map.specs.Standing.{Cells, floodFrom, Floodable, Flooded}
 use Rattle.map.specs.Laws.Lines.{getD-mem}
-use Rattle.map.specs.Laws.Reads.{cells-read, row-occupied, lists-once, lists-in, onward-cells, onward-under, onward-once}
+use Rattle.map.specs.Laws.Reads.{cells-read, row-occupied, touching-once, touching-in, row-bit, row-lead, onward-cells, onward-under, onward-once}
 use Rattle.map.specs.Laws.Pushes.{isOpen, fresh, Pushed, pushed-one, pushed-all}
 use Rattle.map.proofs.Marking.{marks-more}
 
@@ -34,13 +37,13 @@ abbrev pub queued : Front → List ℕ
 queued f = take (f .end) (f .queue)
 
 -- How far a flood is: of the rows that are queued those before h are done.
-pub record Wave (words : List ℕ) (n : ℕ) (t : List (Cell × List Cell)) (seed label : ℕ) (marks₀ queue₀ : List ℕ) (h : ℕ) (f : Front) : Type 0 where
+pub record Wave (words : List ℕ) (n : ℕ) (t : List (Cell × ℕ)) (seed label : ℕ) (marks₀ queue₀ : List ℕ) (h : ℕ) (f : Front) : Type 0 where
   pub ends : h ≤ f .end
   pub fits : f .end ≤ length (f .queue)
   pub under : (j : ℕ) → Mem j (queued f) → j < n
   pub once : Once (each (rowCell words) (queued f))
   pub walk :
-      each (rowCell words) (take h (queued f)) ++ visit t (n - h) (each (rowCell words) (drop h (queued f))) (each (rowCell words) (queued f))
+      each (rowCell words) (take h (queued f)) ++ visit (touching touch26 (keys t)) (n - h) (each (rowCell words) (drop h (queued f))) (each (rowCell words) (queued f))
       ≡ floodFrom t n (rowCell words seed)
   pub marks : (j : ℕ) → j < n → getD (f .marks) j 0 ≡ cond (has same (each (rowCell words) (queued f)) (rowCell words j)) label (getD marks₀ j 0)
   pub behind : drop (f .end) (f .queue) ≡ drop (f .end) queue₀
@@ -48,9 +51,9 @@ pub record Wave (words : List ℕ) (n : ℕ) (t : List (Cell × List Cell)) (see
   pub marksKept : length (f .marks) ≡ length marks₀
   pub queueKept : length (f .queue) ≡ length queue₀
 
-visit-nil : (t : List (Cell × List Cell)) (n : ℕ) (marked : List Cell) → visit t n [] marked ≡ []
-visit-nil t zero marked = refl
-visit-nil t (suc n) marked = refl
+visit-nil : (list : Cell → List Cell) (n : ℕ) (marked : List Cell) → visit list n [] marked ≡ []
+visit-nil list zero marked = refl
+visit-nil list (suc n) marked = refl
 
 first-set : (queue : List ℕ) (i : ℕ) → 0 < length queue → take 1 (set queue 0 i) ≡ i ∷ []
 first-set [] i h = absurd (not-suc-le-zero h)
@@ -70,7 +73,7 @@ canon words n seed label marks queue a =
     }
 
 module _ (words : List ℕ) (n seed label : ℕ) (marks₀ queue₀ : List ℕ) (a : Floodable words n seed label marks₀ queue₀) where
-  abbrev t : List (Cell × List Cell)
+  abbrev t : List (Cell × ℕ)
   t = a .table
 
   abbrev cellsOf : List ℕ → List Cell
@@ -80,7 +83,7 @@ module _ (words : List ℕ) (n seed label : ℕ) (marks₀ queue₀ : List ℕ) 
   F = floodFrom t n (rowCell words seed)
 
   keys-long : length (keys t) ≡ n
-  keys-long = each-length (λ (p : Cell × List Cell). p .0) t ∙ sym (a .cells .number)
+  keys-long = each-length (λ (p : Cell × ℕ). p .0) t ∙ sym (a .cells .number)
 
   occupied : (l : List ℕ) → ((j : ℕ) → Mem j l → j < n) → (d : Cell) → Mem d (cellsOf l) → Mem d (keys t)
   occupied l u d m = let r = each-out (rowCell words) l m in mem-cast (r .2) (row-occupied words n t (a .cells) (r .0) (u (r .0) (r .1)))
@@ -99,7 +102,7 @@ module _ (words : List ℕ) (n seed label : ℕ) (marks₀ queue₀ : List ℕ) 
         fits = omega (arith, a .queueFits);
         under = λ j m. subst (λ i. i < n) (sym (mem-one (subst (λ q. Mem j q) e m))) s;
         once = subst (λ q. Once (cellsOf q)) (sym e) (once-cons mem-nil once-nil);
-        walk = (λ i. visit t (z i) (cellsOf (e i)) (cellsOf (e i)));
+        walk = (λ i. visit (touching touch26 (keys t)) (z i) (cellsOf (e i)) (cellsOf (e i)));
         marks = λ j h. marks-more words n t (a .cells) label (front 0 marks₀ queue₀) (front 1 (set marks₀ seed label) (set queue₀ 0 seed)) [] (seed ∷ []) marks₀ p (λ i m. subst (λ v. v < n) (sym (mem-one m)) s) (λ i b. refl) j h ∙ ap (λ q. cond (has same (cellsOf q) (rowCell words j)) label (getD marks₀ j 0)) (sym e);
         behind = drop-set-lt 1 queue₀ 0 seed (omega arith);
         beyond = drop-set-lt n marks₀ seed label s;
@@ -140,8 +143,8 @@ module _ (words : List ℕ) (n seed label : ℕ) (marks₀ queue₀ : List ℕ) 
         all : cellsOf (queued f) ≡ F
         all =
             sym (append-nil (cellsOf (queued f)))
-            ∙ (λ i. cellsOf (sym (take-all h (queued f) (omega (arith, Q-long))) i) ++ sym (visit-nil t (n - h) (cellsOf (queued f))) i)
-            ∙ ap (λ l. cellsOf (take h (queued f)) ++ visit t (n - h) (cellsOf l) (cellsOf (queued f))) (sym (drop-of-length-le (queued f) {i = h} (omega (arith, Q-long))))
+            ∙ (λ i. cellsOf (sym (take-all h (queued f) (omega (arith, Q-long))) i) ++ sym (visit-nil (touching touch26 (keys t)) (n - h) (cellsOf (queued f))) i)
+            ∙ ap (λ l. cellsOf (take h (queued f)) ++ visit (touching touch26 (keys t)) (n - h) (cellsOf l) (cellsOf (queued f))) (sym (drop-of-length-le (queued f) {i = h} (omega (arith, Q-long))))
             ∙ w .walk
 
     module _ (b : h < f .end) (i : ℕ) (is : i ≡ getD (f .queue) h 0) where
@@ -162,7 +165,7 @@ module _ (words : List ℕ) (n seed label : ℕ) (marks₀ queue₀ : List ℕ) 
       Qc = cellsOf (queued f)
 
       abbrev new : List Cell
-      new = minus same (listOf t c) Qc
+      new = minus same (touching touch26 (keys t) c) Qc
 
       ahead : drop h (queued f) ≡ i ∷ drop (suc h) (queued f)
       ahead = drop-cons (queued f) h 0 (omega (arith, Q-long)) ∙ ap (λ v. v ∷ drop (suc h) (queued f)) (sym i-is)
@@ -182,21 +185,21 @@ module _ (words : List ℕ) (n seed label : ℕ) (marks₀ queue₀ : List ℕ) 
                 (keys t) (λ d m. ⊎-elim (occupied (queued f) (w .under) d) (λ j. minus-out cells (keys t) Qc j .0) (append-cases Qc m)),
           )
 
-      come : {d : Cell} → Mem d (cellsOf (drop h (queued f))) → Mem d (visit t (n - h) (cellsOf (drop h (queued f))) Qc)
-      come m = visit-queued t (lists-once words n t (a .cells)) (keys t) (asc-once cells (a .cells .asc)) (lists-in words n t (a .cells)) (n - h) (cellsOf (drop h (queued f))) Qc enough m
+      come : {d : Cell} → Mem d (cellsOf (drop h (queued f))) → Mem d (visit (touching touch26 (keys t)) (n - h) (cellsOf (drop h (queued f))) Qc)
+      come m = visit-queued (touching touch26 (keys t)) (touching-once words n t (a .cells)) (keys t) (asc-once cells (a .cells .asc)) (touching-in words n t (a .cells)) (n - h) (cellsOf (drop h (queued f))) Qc enough m
 
       splits : Qc ≡ cellsOf (take h (queued f)) ++ cellsOf (drop h (queued f))
       splits = ap cellsOf (sym (take-append-drop h (queued f))) ∙ each-append (rowCell words) (take h (queued f)) (drop h (queued f))
 
-      visited : {d : Cell} → Mem d (visit t (n - h) (cellsOf (drop h (queued f))) Qc) → Mem d F
+      visited : {d : Cell} → Mem d (visit (touching touch26 (keys t)) (n - h) (cellsOf (drop h (queued f))) Qc) → Mem d F
       visited {d} m = subst (λ l. Mem d l) (w .walk) (append-right (cellsOf (take h (queued f))) m)
 
       -- The cells of the list are of the flood.
-      listed : {d : Cell} → Mem d (listOf t c) → Mem d F
+      listed : {d : Cell} → Mem d (touching touch26 (keys t) c) → Mem d F
       listed {d} m =
           ⊎-elim visited
           (λ j. ⊎-elim (λ k. subst (λ l. Mem d l) (w .walk) (append-left _ k)) (λ k. visited (come k)) (append-cases (cellsOf (take h (queued f))) (subst (λ l. Mem d l) splits j)))
-          (visit-closed t (lists-once words n t (a .cells)) (keys t) (asc-once cells (a .cells .asc)) (lists-in words n t (a .cells)) (n - h) (cellsOf (drop h (queued f))) Qc enough
+          (visit-closed (touching touch26 (keys t)) (touching-once words n t (a .cells)) (keys t) (asc-once cells (a .cells .asc)) (touching-in words n t (a .cells)) (n - h) (cellsOf (drop h (queued f))) Qc enough
           (come (subst (λ l. Mem c (cellsOf l)) (sym ahead) (head refl))) m)
 
       -- A row of the list is unmarked if its cell is not queued.
@@ -218,7 +221,7 @@ module _ (words : List ℕ) (n seed label : ℕ) (marks₀ queue₀ : List ℕ) 
           ∙ ap (keep (λ d. not (has same Qc d))) (onward-cells words n t (a .cells) i wave-row)
 
       more-once : Once (Qc ++ new)
-      more-once = once-append Qc new (w .once) (once-keep _ (listOf t c) (lists-once words n t (a .cells) c)) (λ d m j. minus-out cells (listOf t c) Qc j .1 m)
+      more-once = once-append Qc new (w .once) (once-keep _ (touching touch26 (keys t) c) (touching-once words n t (a .cells) c)) (λ d m j. minus-out cells (touching touch26 (keys t) c) Qc j .1 m)
 
       more-few : f .end + length (fresh f L) ≤ n
       more-few =
@@ -229,7 +232,7 @@ module _ (words : List ℕ) (n seed label : ℕ) (marks₀ queue₀ : List ℕ) 
             length-append Qc new,
             ap length new-are,
             each-length (rowCell words) (fresh f L),
-            once-shorter more-once (keys t) (λ d m. ⊎-elim (occupied (queued f) (w .under) d) (λ j. lists-in words n t (a .cells) c d (minus-out cells (listOf t c) Qc j .0)) (append-cases Qc m)),
+            once-shorter more-once (keys t) (λ d m. ⊎-elim (occupied (queued f) (w .under) d) (λ j. touching-in words n t (a .cells) c d (minus-out cells (touching touch26 (keys t) c) Qc j .0)) (append-cases Qc m)),
           )
 
       pushes : Pushed label n f (fresh f L) (pushed label f L)
@@ -242,8 +245,12 @@ module _ (words : List ℕ) (n seed label : ℕ) (marks₀ queue₀ : List ℕ) 
       wave-space = omega (arith, pushes .end, more-few, a .queueFits, w .queueKept)
 
       -- The rows of the list are there.
-      pub wave-there : (j : ℕ) → Mem j L → j < n
-      wave-there = onward-under words n t (a .cells) i wave-row
+      pub wave-there : (j : ℕ) → j < 26 → bit (rowMask words i) j ≡ true → rowFor words n (rowNear words i j) < n
+      wave-there = row-lead words n t (a .cells) i wave-row
+
+      -- The mask is exact.
+      pub wave-exact : (j : ℕ) → j < 26 → bit (rowMask words i) j ≡ leadsTo touch26 (keys (table4 5 n words)) (rowCell words i) (offsetAt j)
+      wave-exact = row-bit words n t (a .cells) i wave-row
 
       abbrev g : Front
       g = pushed label f L
@@ -271,11 +278,11 @@ module _ (words : List ℕ) (n seed label : ℕ) (marks₀ queue₀ : List ℕ) 
           ∙ each-append (rowCell words) (drop (suc h) (queued f)) R
           ∙ ap (λ l. cellsOf (drop (suc h) (queued f)) ++ l) new-are
 
-      turn : visit t (n - h) (cellsOf (drop h (queued f))) Qc ≡ c ∷ visit t (n - (h + 1)) (cellsOf (drop (h + 1) (queued g))) (cellsOf (queued g))
+      turn : visit (touching touch26 (keys t)) (n - h) (cellsOf (drop h (queued f))) Qc ≡ c ∷ visit (touching touch26 (keys t)) (n - (h + 1)) (cellsOf (drop (h + 1) (queued g))) (cellsOf (queued g))
       turn =
           let e : n - h ≡ suc (n - (h + 1)) = omega (arith, wave-few) in
-          (λ d. visit t (e d) (cellsOf (ahead d)) Qc)
-          ∙ (λ d. c ∷ visit t (n - (h + 1)) (sym back-part d) (sym (cells-more ∙ ap (λ l. Qc ++ l) new-are) d))
+          (λ d. visit (touching touch26 (keys t)) (e d) (cellsOf (ahead d)) Qc)
+          ∙ (λ d. c ∷ visit (touching touch26 (keys t)) (n - (h + 1)) (sym back-part d) (sym (cells-more ∙ ap (λ l. Qc ++ l) new-are) d))
 
       -- The next row is done.
       pub wave-step : Wave words n t seed label marks₀ queue₀ (h + 1) g
@@ -286,7 +293,7 @@ module _ (words : List ℕ) (n seed label : ℕ) (marks₀ queue₀ : List ℕ) 
             under = λ j m. ⊎-elim (w .under j) (R-under j) (append-cases (queued f) (subst (λ q. Mem j q) (pushes .queued) m));
             once = subst Once (sym (cells-more ∙ ap (λ l. Qc ++ l) new-are)) more-once;
             walk =
-                ap (λ l. l ++ visit t (n - (h + 1)) (cellsOf (drop (h + 1) (queued g))) (cellsOf (queued g))) front-part
+                ap (λ l. l ++ visit (touching touch26 (keys t)) (n - (h + 1)) (cellsOf (drop (h + 1) (queued g))) (cellsOf (queued g))) front-part
                 ∙ append-assoc (cellsOf (take h (queued f))) (c ∷ []) _
                 ∙ ap (λ l. cellsOf (take h (queued f)) ++ l) (sym turn)
                 ∙ w .walk;
@@ -310,7 +317,7 @@ module _ (words : List ℕ) (n seed label : ℕ) (marks₀ queue₀ : List ℕ) 
 -- The same with the seed marked and queued beforehand, as the code has it.
 module _ (words : List ℕ) (n seed label : ℕ) (marks queue : List ℕ) (a : Floodable words n seed label marks queue) where
   flood-first : (rest : List Cell) × (floodFrom (a .table) n (rowCell words seed) ≡ rowCell words seed ∷ rest)
-  flood-first = visit-first (a .table) n (rowCell words seed) [] (rowCell words seed ∷ []) (omega (arith, a .seeded))
+  flood-first = visit-first (touching touch26 (keys (a .table))) n (rowCell words seed) [] (rowCell words seed ∷ []) (omega (arith, a .seeded))
 
   seed-open : getD marks seed 0 ≡ 0
   seed-open = a .unmarked seed (a .seeded) (subst (λ l. Mem (rowCell words seed) l) (sym (flood-first .1)) (head refl))
@@ -341,7 +348,7 @@ module _ (words : List ℕ) (n seed label : ℕ) (marks queue : List ℕ) (a : F
 
   -- The flood ends.
   pub wave-over : (r : ℕ) (marks′ queue′ : List ℕ) → Flooded words n seed label (set (set marks seed label) seed 0) (set queue 0 seed) r marks′ queue′ (a .table)
-      → (t : List (Cell × List Cell)) → a .table ≡ t → Flooded words n seed label marks queue r marks′ queue′ t
+      → (t : List (Cell × ℕ)) → a .table ≡ t → Flooded words n seed label marks queue r marks′ queue′ t
   wave-over r marks′ queue′ d t e =
       subst (Flooded words n seed label marks queue r marks′ queue′) e
       (record {

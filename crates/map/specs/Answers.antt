@@ -3,9 +3,9 @@ use Prim.Native.Nat.{ℕ, suc, _+_, _*_, _%_, _≤_, _<_}
 use mathlib.Core.Path.{_≡_}
 use mathlib.Core.List.{List, [], _∷_}
 use lib.ListN.{length, take, getD}
-use Rattle.model.specs.Lists.{gather, each}
-use Rattle.model.specs.Cells.{Cell}
-use Rattle.model.specs.Flood.{listOf}
+use Rattle.model.specs.Lists.{gather, each, keys}
+use Rattle.model.specs.Cells.{Cell, touch26}
+use Rattle.model.specs.Masks.{touching}
 use Rattle.table.specs.Moves.{over}
 use Rattle.map.specs.Rows.{rowCell}
 use Rattle.map.specs.Standing.{Cells}
@@ -22,21 +22,21 @@ answerWords c = c .grid ∷ signedWord (c .x) ∷ signedWord (c .y) ∷ signedWo
 unfoldable pub filled : List ℕ → List Cell → List ℕ
 filled s l = over s 0 (gather answerWords l)
 
--- What the answer of a cell and its list asks: a row that is there, and space.
+-- What the answer of a cell and its touching ones asks: a row that is there, and space.
 pub record NearbyAsked (words : List ℕ) (n row : ℕ) (answer : List ℕ) : Type 0 where
-  pub table : List (Cell × List Cell)
+  pub table : List (Cell × ℕ)
   pub cells : Cells words n table
   pub there : row < n
-  pub space : 4 * suc (length (listOf table (rowCell words row))) ≤ length answer
+  pub space : 4 * suc (length (touching touch26 (keys table) (rowCell words row))) ≤ length answer
 
--- The cell of a row and its list are written, and the answer is their number.
-pub record Nearby (words : List ℕ) (row : ℕ) (answer : List ℕ) (r : ℕ) (answer′ : List ℕ) (t : List (Cell × List Cell)) : Type 0 where
-  pub number : r ≡ suc (length (listOf t (rowCell words row)))
-  pub written : answer′ ≡ filled answer (rowCell words row ∷ listOf t (rowCell words row))
+-- The cell of a row and the touching ones are written, and the answer is their number.
+pub record Nearby (words : List ℕ) (row : ℕ) (answer : List ℕ) (r : ℕ) (answer′ : List ℕ) (t : List (Cell × ℕ)) : Type 0 where
+  pub number : r ≡ suc (length (touching touch26 (keys t) (rowCell words row)))
+  pub written : answer′ ≡ filled answer (rowCell words row ∷ touching touch26 (keys t) (rowCell words row))
 
 -- The first count of some rows are there.
 pub record Queued (words : List ℕ) (n : ℕ) (rows : List ℕ) (count : ℕ) : Type 0 where
-  pub fits : 30 * n ≤ length words
+  pub fits : 5 * n ≤ length words
   pub few : count ≤ length rows
   pub there : (k : ℕ) → k < count → getD rows k 0 < n
 

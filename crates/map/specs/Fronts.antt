@@ -2,12 +2,15 @@
 use Prim.Native.Nat.{ℕ, suc, _≤_, _<_}
 use mathlib.Core.Path.{_≡_}
 use mathlib.Core.Bool.{true, cond}
-use mathlib.Core.List.{List, List·Memᴰ as Mem}
+use mathlib.Core.List.{List}
 use lib.Dec.{eqb}
 use lib.ListN.{length, getD, set}
-use Rattle.model.specs.Lists.{run}
-use Rattle.table.specs.Rows.{isTable4}
-use Rattle.map.specs.Rows.{onward}
+use Rattle.model.specs.Lists.{run, keys}
+use Rattle.model.specs.Cells.{touch26}
+use Rattle.model.specs.Masks.{bit, leadsTo}
+use Rattle.model.specs.Places.{offsetAt}
+use Rattle.table.specs.Rows.{isTable4, table4}
+use Rattle.map.specs.Rows.{rowCell, rowMask, rowNear, rowFor, onward}
 
 -- The marks of the rows, the queue of rows, and where the queue ends.
 pub record Front : Type 0 where
@@ -28,10 +31,12 @@ push label f j =
 unfoldable pub pushed : ℕ → Front → List ℕ → Front
 pushed label f l = run (push label) f l
 
--- What following the list of row i asks: the words are a table's, the row and those that it leads to are there, and the queue has space.
+-- What following the mask of row i asks: the words are a table's, the mask is exact, the row and those that it leads to are there, and the
+-- queue has space.
 pub record Followable (words : List ℕ) (n i label : ℕ) (f : Front) : Type 0 where
-  pub table : isTable4 30 n words ≡ true
+  pub table : isTable4 5 n words ≡ true
   pub row : i < n
-  pub there : (j : ℕ) → Mem j (onward words n i) → j < n
+  pub exact : (k : ℕ) → k < 26 → bit (rowMask words i) k ≡ leadsTo touch26 (keys (table4 5 n words)) (rowCell words i) (offsetAt k)
+  pub there : (k : ℕ) → k < 26 → bit (rowMask words i) k ≡ true → rowFor words n (rowNear words i k) < n
   pub fits : n ≤ length (f .marks)
   pub space : pushed label f (onward words n i) .end ≤ length (f .queue)

@@ -41,15 +41,15 @@ pub record Placed (o : Occupancy) : Type 0 where
   pub opened-in : (c : Cell) → Mem c (o .newlyOccupied) → Mem c (occupied o)
   pub emptied-out : (c : Cell) → Mem c (o .newlyEmptied) → Mem c (occupied o) → ⊥
 
--- The occupied cells with their lists and both net lists, in words, with their counts.
+-- The occupied cells with their masks and both net lists, in words, with their counts.
 pub record Stored (cells occ emp : List ℕ) (n : Counts) (o : Occupancy) : Type 0 where
-  pub lists : cells ≡ cellsImage (length cells) (o .lists)
+  pub masks : cells ≡ cellsImage (length cells) (o .masks)
   pub opened : occ ≡ netImage (length occ) (o .newlyOccupied)
   pub emptied : emp ≡ netImage (length emp) (o .newlyEmptied)
-  pub cells-count : n .cells ≡ length (o .lists)
+  pub cells-count : n .cells ≡ length (o .masks)
   pub occupied-count : n .occupied ≡ length (o .newlyOccupied)
   pub emptied-count : n .emptied ≡ length (o .newlyEmptied)
-  pub cells-fit : 30 * n .cells ≤ length cells
+  pub cells-fit : 5 * n .cells ≤ length cells
   pub occupied-fit : 4 * n .occupied ≤ length occ
   pub emptied-fit : 4 * n .emptied ≤ length emp
 
@@ -70,9 +70,9 @@ pub record Peopled (cells crowd occ emp : List ℕ) (n : Counts) (o : Occupancy)
   pub stored : Stored cells occ emp n o
   pub placed : Placed o
 
--- There is space for one cell more, with its list, and for one newly occupied cell more.
+-- There is space for one cell more, with its mask, and for one newly occupied cell more.
 pub record RoomToOpen (cells occ : List ℕ) (n : Counts) : Type 0 where
-  pub cells-room : 30 * suc (n .cells) ≤ length cells
+  pub cells-room : 5 * suc (n .cells) ≤ length cells
   pub occupied-room : 4 * suc (n .occupied) ≤ length occ
 
 -- There is space for one entity more, and for its cell.

@@ -1,4 +1,4 @@
-// The map in lent memory: where each entity stands, the occupied cells with their lists, how many stand in each, and both net lists.
+// The map in lent memory: where each entity stands, the occupied cells with their masks, how many stand in each, and both net lists.
 mod lookup;
 
 use component::Cell;
@@ -28,7 +28,7 @@ ghost use Rattle.table.specs.Moves.{over};
 ghost use Rattle.table.specs.Rows.{cell, cellWords, table1, stored1, isTable1, hasRoom1, table4, stored4, isTable4, hasRoom4};
 ghost use Rattle.map.specs.Held.{Stored, Opens, Closes, Held, Peopled, Enters, EntersCell, Leaves, LeavesCell, Moves, RoomToEnter, RoomToLeave, removalOf, moveOf, counted, tally};
 ghost use Rattle.map.specs.Stands.{standOf};
-ghost use Rattle.map.specs.Told.{Shows, Squeezed, padded, revisedRow, toldOne, told, noted};
+ghost use Rattle.map.specs.Told.{Shows, revisedMask, revisedRow, toldOne, told, noted};
 
 // How many rows each table has; the crowd has as many as the cells.
 pub struct Counts {
@@ -38,92 +38,46 @@ pub struct Counts {
     pub emptied: usize,
 }
 
-// w takes the place of the first zero of a row's list.
-fn append(row: &mut [u64], w: u64)
-    requires { ⌜ 4 ≤ length (now row) ⌝ }
-    ensures { λ _. ⌜ now (row .exit) ≡ revisedRow true w (now (row .entry)) ⌝ }
-{
-    let mut j = 4;
-    while j < row.len() {
-        if row[j] == 0 {
-            row[j] = w;
-            return;
-        }
-        j += 1;
-    }
-}
-
-// The words of a row's list that are not w move to the front; the answer is where they end.
-fn squeeze(row: &mut [u64], w: u64) -> usize
-    requires { ⌜ 4 ≤ length (now row) ⌝ }
-    ensures { λ r. ⌜ Squeezed w (now (row .entry)) (now (row .exit)) r ⌝ }
-{
-    let mut q = 4;
-    let mut j = 4;
-    while j < row.len() {
-        let v = row[j];
-        if w == v {
-            j += 1;
-        } else {
-            row[q] = v;
-            q += 1;
-            j += 1;
-        }
-    }
-    q
-}
-
-// The words of a row's list that are w go out, the rest keep their order, and zeros come in behind.
-fn strip(row: &mut [u64], w: u64)
-    requires { ⌜ 4 ≤ length (now row) ⌝ }
-    ensures { λ _. ⌜ now (row .exit) ≡ revisedRow false w (now (row .entry)) ⌝ }
-{
-    let q = squeeze(row, w);
-    let n = row.len();
-    table::write_zeros(row, q, n - q);
-}
-
-// A row's list gains w at its end, or loses it.
-fn revise_row(row: &mut [u64], w: u64, joins: bool)
-    requires { ⌜ 4 ≤ length (now row) ⌝ }
-    ensures { λ _. ⌜ now (row .exit) ≡ revisedRow joins w (now (row .entry)) ⌝ }
+// A mask gains the bit w, or loses it.
+fn revised(m: u64, w: u64, joins: bool) -> u64
+    requires { ⌜ w < 64 ⌝ }
+    ensures { λ r. ⌜ r ≡ revisedMask joins w m ⌝ }
 {
     if joins {
-        append(row, w);
+        mask::set(m, w)
     } else {
-        strip(row, w);
+        mask::clear(m, w)
     }
 }
 
-// The list of row i gains w at its end, or loses it.
+// The mask of row i gains the bit w, or loses it.
 fn revise(cells: &mut [u64], i: usize, w: u64, joins: bool)
-    requires { ⌜ 30 * i + 30 ≤ length (now cells) ⌝ }
-    ensures { λ _. ⌜ now (cells .exit) ≡ over (now (cells .entry)) (30 * i) (revisedRow joins w (take 30 (drop (30 * i) (now (cells .entry))))) ⌝ }
+    requires { ⌜ (5 * i + 5 ≤ length (now cells)) × (w < 64) ⌝ }
+    ensures { λ _. ⌜ now (cells .exit) ≡ over (now (cells .entry)) (5 * i) (revisedRow joins w (take 5 (drop (5 * i) (now (cells .entry))))) ⌝ }
 {
-    let a = 30 * i;
-    let e = a + 30;
-    revise_row(&mut cells[a..e], w, joins);
+    let a = 5 * i + 4;
+    cells[a] = revised(cells[a], w, joins);
 }
 
-// The list of neighbour k of c, where it is occupied, gains the number of c at its end, or loses it; the answer is its place.
+// The mask of neighbour k of c, where it is occupied, gains the bit of c, or loses it; the answer is its place.
 fn tell_one(cells: &mut [u64], m: usize, c: Cell, k: u64, joins: bool, near: usize) -> usize
-    requires { ⌜ (isTable4 30 m (now cells) ≡ true) × (k ≤ 27) ⌝ }
-    ensures { λ _. ⌜ Shows cell 30 m (now (cells .exit)) (change (toldOne joins (neighbourOf c k) (27 - k)) (table4 30 m (now (cells .entry)))) ⌝ }
+    requires { ⌜ (isTable4 5 m (now cells) ≡ true) × (k ≤ 26) ⌝ }
+    ensures { λ _. ⌜ Shows cell 5 m (now (cells .exit)) (change (toldOne joins (neighbourOf c k) (26 - k)) (table4 5 m (now (cells .entry)))) ⌝ }
 {
-    let p = find4_near(cells, 30, m, neighbour_of(c, k), near);
+    let p = find4_near(cells, 5, m, neighbour_of(c, k), near);
     match p {
         Place::Found(i) => {
-            revise(cells, i, 27 - k, joins);
+            revise(cells, i, 26 - k, joins);
             i
         }
         Place::Missing(i) => i,
     }
 }
 
-// The list of each occupied neighbour of c gains c at its end, or loses it.
+// The mask of each occupied neighbour of c gains the bit of c, or loses it.
 fn tell(cells: &mut [u64], m: usize, c: Cell, joins: bool)
-    requires { ⌜ isTable4 30 m (now cells) ≡ true ⌝ }
-    ensures { λ _. ⌜ Shows cell 30 m (now (cells .exit)) (change (told joins (neighbourOf c) 26) (table4 30 m (now (cells .entry)))) ⌝ }
+    requires { ⌜ isTable4 5 m (now cells) ≡ true ⌝ }
+    ensures { λ _. ⌜ Shows cell 5 m (now (cells .exit)) (change (told joins (neighbourOf c) 26) (table4 5 m (now (cells .entry)))) ⌝ }
 {
     let mut near = 0;
     let mut k = 0;
@@ -141,23 +95,25 @@ pub fn contains(s: &[u64], w: usize, m: usize, c: Cell) -> bool
     is_found(table::find4(s, w, m, c))
 }
 
-// The numbers of the occupied neighbours of c come into the list of a row.
-fn note(cells: &[u64], m: usize, c: Cell, row: &mut [u64])
-    requires { ⌜ (isTable4 30 m (now cells) ≡ true) × (4 ≤ length (now row)) × (drop 4 (now row) ≡ replicate 26 0) ⌝ }
-    ensures { λ _. ⌜ now (row .exit) ≡ take 4 (now (row .entry)) ++ padded 26 (noted (keys (table4 30 m (now (cells .entry)))) (neighbourOf c) 26) ⌝ }
+// The mask of c among the cells of m rows.
+pub fn note(cells: &[u64], m: usize, c: Cell) -> u64
+    requires { ⌜ isTable4 5 m (now cells) ≡ true ⌝ }
+    ensures { λ r. ⌜ r ≡ noted (keys (table4 5 m (now (cells .entry)))) (neighbourOf c) 26 ⌝ }
 {
+    let mut mask = 0;
     let mut near = 0;
     let mut k = 0;
     while k < 26 {
-        let p = find4_near(cells, 30, m, neighbour_of(c, k + 1), near);
+        let p = find4_near(cells, 5, m, neighbour_of(c, k + 1), near);
         near = index(p);
         if is_found(p) {
-            append(row, k + 1);
+            mask = mask::set(mask, k);
             k += 1;
         } else {
             k += 1;
         }
     }
+    mask
 }
 
 // How many rows two net lists have: the one that a cell leaves, and the one that it joins.
@@ -180,7 +136,7 @@ fn cross(from: &mut [u64], to: &mut [u64], n: usize, m: usize, c: Cell) -> Nets
     Nets { left: n, joined: k }
 }
 
-// A cell opens: it gets the list of its occupied neighbours, joins theirs, and crosses the net lists.
+// A cell opens: it gets its mask, joins those of its neighbours, and crosses the net lists.
 pub fn insert_entry(
     cells: &mut [u64],
     occ: &mut [u64],
@@ -193,13 +149,9 @@ pub fn insert_entry(
     ensures { λ r. ⌜ ((o : Occupancy) → Opens (now (cells .entry)) (now (occ .entry)) (now (emp .entry)) n c o → Stored (now (cells .exit)) (now (occ .exit)) (now (emp .exit)) r (openCell touch26 c o)) ⌝ }
 {
     let m = n.cells;
-    let mut row = [0u64; 30];
-    row[0] = c.grid;
-    row[1] = c.z;
-    row[2] = c.y;
-    row[3] = c.x;
-    note(cells, m, c, &mut row);
+    let w = note(cells, m, c);
     tell(cells, m, c, true);
+    let row = [c.grid, c.z, c.y, c.x, w];
     let k = table::put4(cells, m, &row);
     let x = cross(emp, occ, n.emptied, n.occupied, c);
     Counts {
@@ -210,7 +162,7 @@ pub fn insert_entry(
     }
 }
 
-// A cell closes: its row goes out, it leaves the lists of its neighbours, and crosses the net lists.
+// A cell closes: its row goes out, it leaves the masks of its neighbours, and crosses the net lists.
 pub fn remove_entry(
     cells: &mut [u64],
     occ: &mut [u64],
@@ -222,7 +174,7 @@ pub fn remove_entry(
     ensures { λ r. ⌜ r .entities ≡ n .entities ⌝ }
     ensures { λ r. ⌜ ((o : Occupancy) → Closes (now (cells .entry)) (now (occ .entry)) (now (emp .entry)) n c o → Stored (now (cells .exit)) (now (occ .exit)) (now (emp .exit)) r (closeCell touch26 c o)) ⌝ }
 {
-    let k = table::remove4(cells, 30, n.cells, c);
+    let k = table::remove4(cells, 5, n.cells, c);
     tell(cells, k, c, false);
     let x = cross(occ, emp, n.occupied, n.emptied, c);
     Counts {

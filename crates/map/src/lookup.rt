@@ -1,60 +1,84 @@
-// What is looked up in the table of occupied cells: a cell and its list, the occupied cells of a cube, floods.
+// What is looked up in the table of occupied cells: a cell and those that its mask tells of, the occupied cells of a cube, floods.
 use component::Cell;
 use component::CellCoord;
 use component::CellId;
+use table::find4_near;
 use table::index;
 ghost use mathlib.Core.Path.{_≡_};
 ghost use mathlib.Core.Bool.{true};
-ghost use mathlib.Core.List.{List, _∷_, _++_};
-ghost use Prim.Native.Nat.{_+_, _*_, _≤_, _<_};
-ghost use lib.ListN.{length, take, getD};
+ghost use mathlib.Core.List.{List, _++_};
+ghost use Prim.Native.Nat.{ℕ, _+_, _-_, _*_, _≤_, _<_};
+ghost use lib.ListN.{length, take};
+ghost use Rattle.component.specs.Around.{stepN};
 ghost use Rattle.component.specs.Stored.{biased};
 ghost use Rattle.model.specs.Lists.{whilst, keep, keys, gather};
-ghost use Rattle.model.specs.Cells.{Cell as CellOf};
+ghost use Rattle.model.specs.Cells.{Cell as CellOf, touch26, shift};
+ghost use Rattle.model.specs.Masks.{leadsTo};
+ghost use Rattle.model.specs.Places.{offsetAt};
 ghost use Rattle.model.specs.Flood.{atMost, within};
 ghost use Rattle.table.specs.Rows.{isTable4, table4};
 ghost use Rattle.table.specs.Moves.{over};
-ghost use Rattle.map.specs.Rows.{rowCell, rowNumbers, rowList, rowFor, onward};
+ghost use Rattle.map.specs.Rows.{Lands, rowCell, rowNear, rowFor, onward};
 ghost use Rattle.map.specs.Fronts.{front, pushed, Followable};
 ghost use Rattle.map.specs.Standing.{Cells, Floodable, Flooded};
 ghost use Rattle.map.specs.Beside.{apart, beside};
 ghost use Rattle.map.specs.Answers.{signedWord, answerWords, filled, NearbyAsked, Nearby, Queued, cellsOfRows};
 
-// How many numbers the list of row i has: its words before the first zero.
-fn list_len(cells: &[u64], i: usize) -> usize
-    requires { ⌜ 30 * i + 30 ≤ length (now cells) ⌝ }
-    ensures { λ r. ⌜ r ≡ length (rowNumbers (now (cells .entry)) i) ⌝ }
-{
-    let at = 30 * i + 4;
-    let mut k = 0;
-    while k < 26 {
-        if cells[at + k] == 0 {
-            return k;
-        }
-        k += 1;
-    }
-    k
-}
-
-// The row of an occupied cell.
-fn row_of(cells: &[u64], n: usize, c: Cell) -> usize
-    requires { ⌜ isTable4 30 n (now cells) ≡ true ⌝ }
+// The row of an occupied cell, looked for from a row that may be any.
+fn row_of(cells: &[u64], n: usize, c: Cell, near: usize) -> usize
+    requires { ⌜ isTable4 5 n (now cells) ≡ true ⌝ }
     ensures { λ r. ⌜ r ≡ rowFor (now (cells .entry)) n c ⌝ }
 {
-    index(table::find4(cells, 30, n, c))
+    index(find4_near(cells, 5, n, c, near))
 }
 
-// The row that number k of the list of row i leads to.
-fn next_row(cells: &[u64], n: usize, i: usize, k: usize) -> usize
-    requires { ⌜ (isTable4 30 n (now cells) ≡ true) × (i < n) × (k < length (rowNumbers (now cells) i)) ⌝ }
-    ensures { λ r. ⌜ r ≡ getD (onward (now (cells .entry)) n i) k 0 ⌝ }
+// The place in the block of 27 that bit k of a mask tells of: the centre is left out.
+fn block_place(k: u64) -> u64
+    requires { ⌜ k < 26 ⌝ }
+    ensures { λ r. ⌜ r ≡ stepN 13 k ⌝ }
 {
-    let c = table::cell_at(cells, 30 * i);
-    let d = layout::neighbour_of(c, cells[30 * i + 4 + k]);
-    row_of(cells, n, d)
+    if k < 13 { k } else { k + 1 }
 }
 
-// The unmarked rows of the list of row i are marked and queued, in list order; the answer is the new end of the queue.
+// n after the step d on an axis: one down for 0, the same for 1, one up for 2.
+fn axis_to(n: u64, d: u64) -> u64
+    requires { ⌜ (0 < n + d) × (n + d ≤ 18446744073709551616) ⌝ }
+    ensures { λ r. ⌜ r ≡ n + d - 1 ⌝ }
+{
+    if d == 0 { n - 1 } else { n + (d - 1) }
+}
+
+// The cell that bit k of a mask of c tells of.
+fn near_of(c: Cell, k: u64) -> Cell
+    requires { ⌜ (k < 26) × Lands c (offsetAt k) ⌝ }
+    ensures { λ r. ⌜ r ≡ shift c (offsetAt k) ⌝ }
+{
+    let j = block_place(k);
+    Cell {
+        grid: c.grid,
+        z: axis_to(c.z, j / 3 / 3),
+        y: axis_to(c.y, j / 3 % 3),
+        x: axis_to(c.x, j % 3),
+    }
+}
+
+// The occupied cell that bit k of the mask of row i tells of.
+fn near_cell(cells: &[u64], n: usize, i: usize, k: u64) -> Cell
+    requires { ⌜ (5 * n ≤ length (now cells)) × (i < n) × (k < 26) × (leadsTo touch26 (keys (table4 5 n (now cells))) (rowCell (now cells) i) (offsetAt k) ≡ true) ⌝ }
+    ensures { λ r. ⌜ r ≡ rowNear (now (cells .entry)) i k ⌝ }
+{
+    near_of(table::cell_at(cells, 5 * i), k)
+}
+
+// The row of that cell, looked for from a row that may be any.
+fn next_row(cells: &[u64], n: usize, i: usize, k: u64, near: usize) -> usize
+    requires { ⌜ (isTable4 5 n (now cells) ≡ true) × (i < n) × (k < 26) × (leadsTo touch26 (keys (table4 5 n (now cells))) (rowCell (now cells) i) (offsetAt k) ≡ true) ⌝ }
+    ensures { λ r. ⌜ r ≡ rowFor (now (cells .entry)) n (rowNear (now (cells .entry)) i k) ⌝ }
+{
+    row_of(cells, n, near_cell(cells, n, i, k), near)
+}
+
+// The unmarked rows that row i leads to are marked and queued, in cell order; the answer is the new end of the queue.
 fn follow(
     cells: &[u64],
     n: usize,
@@ -67,16 +91,22 @@ fn follow(
     requires { ⌜ Followable (now cells) n i label (front end (now marks) (now queue)) ⌝ }
     ensures { λ r. ⌜ front r (now (marks .exit)) (now (queue .exit)) ≡ pushed label (front end (now (marks .entry)) (now (queue .entry))) (onward (now (cells .entry)) n i) ⌝ }
 {
-    let m = list_len(cells, i);
+    let m = cells[5 * i + 4];
+    let mut near = i;
     let mut e = end;
     let mut k = 0;
-    while k < m {
-        let j = next_row(cells, n, i, k);
-        if marks[j] == 0 {
-            marks[j] = label;
-            queue[e] = j as u64;
-            e += 1;
-            k += 1;
+    while k < 26 {
+        if mask::has(m, k) {
+            let j = next_row(cells, n, i, k, near);
+            near = j;
+            if marks[j] == 0 {
+                marks[j] = label;
+                queue[e] = j as u64;
+                e += 1;
+                k += 1;
+            } else {
+                k += 1;
+            }
         } else {
             k += 1;
         }
@@ -84,7 +114,7 @@ fn follow(
     e
 }
 
-// The flood from the row seed: first in, first out, each row marked when queued, lists followed in list order.
+// The flood from the row seed: first in, first out, each row marked when queued, touching cells taken in cell order.
 pub fn flood_rows(
     cells: &[u64],
     n: usize,
@@ -94,7 +124,7 @@ pub fn flood_rows(
     queue: &mut [u64],
 ) -> usize
     requires { ⌜ Floodable (now cells) n seed label (now marks) (now queue) ⌝ }
-    ensures { λ r. ⌜ ((t : List (CellOf × List CellOf)) → Cells (now (cells .entry)) n t → Flooded (now (cells .entry)) n seed label (now (marks .entry)) (now (queue .entry)) r (now (marks .exit)) (now (queue .exit)) t) ⌝ }
+    ensures { λ r. ⌜ ((t : List (CellOf × ℕ)) → Cells (now (cells .entry)) n t → Flooded (now (cells .entry)) n seed label (now (marks .entry)) (now (queue .entry)) r (now (marks .exit)) (now (queue .exit)) t) ⌝ }
 {
     marks[seed] = label;
     queue[0] = seed as u64;
@@ -128,31 +158,26 @@ pub fn write_cell(answer: &mut [u64], at: usize, c: Cell)
     table::write_row(answer, at, &row);
 }
 
-// The cell of a row for 0, and the k-th of its list for k.
-fn near_cell(cells: &[u64], row: usize, k: usize) -> Cell
-    requires { ⌜ (30 * row + 30 ≤ length (now cells)) × (k ≤ length (rowNumbers (now cells) row)) ⌝ }
-    ensures { λ r. ⌜ r ≡ getD (rowCell (now (cells .entry)) row ∷ rowList (now (cells .entry)) row) k (rowCell (now (cells .entry)) row) ⌝ }
-{
-    let c = table::cell_at(cells, 30 * row);
-    if k == 0 {
-        return c;
-    }
-    layout::neighbour_of(c, cells[30 * row + 3 + k])
-}
-
-// The cell of a row and then its list, in list order, are written; the answer is how many.
+// The cell of a row and then the occupied cells that it touches, in cell order, are written; the answer is how many.
 pub fn nearby_into(cells: &[u64], n: usize, row: usize, answer: &mut [u64]) -> usize
     requires { ⌜ NearbyAsked (now cells) n row (now answer) ⌝ }
-    ensures { λ r. ⌜ ((t : List (CellOf × List CellOf)) → Cells (now (cells .entry)) n t → Nearby (now (cells .entry)) row (now (answer .entry)) r (now (answer .exit)) t) ⌝ }
+    ensures { λ r. ⌜ ((t : List (CellOf × ℕ)) → Cells (now (cells .entry)) n t → Nearby (now (cells .entry)) row (now (answer .entry)) r (now (answer .exit)) t) ⌝ }
 {
-    let m = list_len(cells, row) + 1;
+    let m = cells[5 * row + 4];
+    write_cell(answer, 0, table::cell_at(cells, 5 * row));
+    let mut e = 1;
     let mut k = 0;
-    while k < m {
-        let c = near_cell(cells, row, k);
-        write_cell(answer, 4 * k, c);
-        k += 1;
+    while k < 26 {
+        if mask::has(m, k) {
+            let d = near_cell(cells, n, row, k);
+            write_cell(answer, 4 * e, d);
+            e += 1;
+            k += 1;
+        } else {
+            k += 1;
+        }
     }
-    m
+    e
 }
 
 // Whether two numbers are at most r apart.
@@ -176,13 +201,13 @@ fn is_beside(r: u64, c: Cell, d: Cell) -> bool
 
 // The occupied cells beside c come to stand in words behind the first from cells; the answer is how many stand there then.
 pub fn cube_into(cells: &[u64], n: usize, c: Cell, r: u64, words: &mut [u64], from: usize) -> usize
-    requires { ⌜ (30 * n ≤ length (now cells)) × (4 * (from + n) ≤ length (now words)) ⌝ }
-    ensures { λ k. ⌜ (k ≤ from + n) × (take (4 * k) (now (words .exit)) ≡ take (4 * from) (now (words .entry)) ++ gather answerWords (keep (beside r c) (keys (table4 30 n (now (cells .entry)))))) ⌝ }
+    requires { ⌜ (5 * n ≤ length (now cells)) × (4 * (from + n) ≤ length (now words)) ⌝ }
+    ensures { λ k. ⌜ (k ≤ from + n) × (take (4 * k) (now (words .exit)) ≡ take (4 * from) (now (words .entry)) ++ gather answerWords (keep (beside r c) (keys (table4 5 n (now (cells .entry)))))) ⌝ }
 {
     let mut k = from;
     let mut i = 0;
     while i < n {
-        let d = table::cell_at(cells, 30 * i);
+        let d = table::cell_at(cells, 5 * i);
         if is_beside(r, c, d) {
             write_cell(words, 4 * k, d);
             k += 1;
@@ -202,7 +227,7 @@ pub fn flood_into(cells: &[u64], n: usize, rows: &[u64], count: usize, answer: &
     let mut k = 0;
     while k < count {
         let i = rows[k] as usize;
-        let c = table::cell_at(cells, 30 * i);
+        let c = table::cell_at(cells, 5 * i);
         write_cell(answer, 4 * k, c);
         k += 1;
     }
@@ -262,11 +287,11 @@ pub fn depth_cut(
     ensures { λ r. ⌜ r ≡ length (whilst (within (biased depth) (rowCell (now (cells .entry)) seed)) (cellsOfRows (now (cells .entry)) (now (queue .entry)) count)) ⌝ }
 {
     let d = depth_word(depth);
-    let s = table::cell_at(cells, 30 * seed);
+    let s = table::cell_at(cells, 5 * seed);
     let mut k = 0;
     while k < count {
         let i = queue[k] as usize;
-        let c = table::cell_at(cells, 30 * i);
+        let c = table::cell_at(cells, 5 * i);
         if !is_within(d, s, c) {
             return k;
         }

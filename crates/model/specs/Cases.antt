@@ -66,7 +66,7 @@ sees p (ids l) = equal sameRow (p .state .groups .ids) l
 sees p (corners g low high) = hasCorners (groupBy (p .state) g) low high
 sees p (noGroup g) = isNone (groupBy (p .state) g)
 sees p (nets f e) = equal same (p .state .occupancy .newlyOccupied) f && equal same (p .state .occupancy .newlyEmptied) e
-sees p (floods c d l) = equal same ((flood (p .state .occupancy) c d 1024) .cells) l
+sees p (floods c d l) = equal same ((flood touch26 (p .state .occupancy) c d 1024) .cells) l
 
 -- Whether a case goes as written.
 abbrev pub holds : Case → Bool
@@ -144,5 +144,5 @@ cases =
     -- L
     record {
       batches = moving ((0, at 0) ∷ (1, at 1) ∷ (2, minus 1) ∷ []) ∷ [];
-      seen = floods (at 0) none (at 0 ∷ at 1 ∷ minus 1 ∷ []) ∷ floods (at 0) (depth 0) (at 0 ∷ []) ∷ [];
+      seen = floods (at 0) none (at 0 ∷ minus 1 ∷ at 1 ∷ []) ∷ floods (at 0) (depth 0) (at 0 ∷ minus 1 ∷ []) ∷ [];
     } ∷ []

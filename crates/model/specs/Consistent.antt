@@ -5,8 +5,9 @@ use mathlib.Core.Bool.{Bool, cond, _&&_, not}
 use mathlib.Core.List.{List}
 use lib.Dec.{eqb, leb, ltb}
 use lib.ListN.{length}
-use Rattle.model.specs.Lists.{keep, all, has, without, equal, distinct, ascending, isAscending, keys, values}
+use Rattle.model.specs.Lists.{all, has, without, equal, ascending, isAscending, keys, values}
 use Rattle.model.specs.Cells.{Cell, same, below, cellInRange}
+use Rattle.model.specs.Masks.{maskOf}
 use Rattle.model.specs.Occupancy.{Occupancy, occupied}
 use Rattle.model.specs.Groups.{Ids, Group, Corner, part, records}
 use Rattle.model.specs.Update.{State, mostEntities, mostCells}
@@ -30,14 +31,9 @@ abbrev pub agree : Bool → Bool → Bool
 agree p q = cond p q (not q)
 
 module _ (touch : Cell → Cell → Bool) where
-  -- Whether a list holds every touching occupied cell once and no other.
-  abbrev pub listExact : List Cell → Cell → List Cell → Bool
-  listExact cells c l =
-      distinct same l && (all (λ d. touch c d && has same cells d) l && all (has same l) (keep (touch c) cells))
-
-  -- 3. Each list holds every touching occupied cell once and no other.
-  abbrev pub listsExact : State → Bool
-  listsExact s = all (λ (p : Cell × List Cell). listExact (occupied (s .occupancy)) (p .0) (p .1)) (s .occupancy .lists)
+  -- 3. Each mask has exactly the bits of touching occupied cells.
+  abbrev pub masksExact : State → Bool
+  masksExact s = all (λ (p : Cell × ℕ). eqb (p .1) (maskOf touch (occupied (s .occupancy)) (p .0))) (s .occupancy .masks)
 
   -- Whether b is joined to a through the cells.
   abbrev pub joinedIn : List Cell → Cell → Cell → Bool
@@ -91,7 +87,7 @@ abbrev pub consistent : (Cell → Cell → Bool) → State → Bool
 consistent touch s =
     withinNumber s
     && (cellsExact s
-    && (listsExact touch s
+    && (masksExact touch s
     && (idsShared touch s
     && (recordsExact s
     && (idsBelowNext s

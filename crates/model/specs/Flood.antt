@@ -1,35 +1,27 @@
--- Flood: first in, first out, each cell marked when queued, lists followed in list order.
+-- Flood: first in, first out, each cell marked when queued, touching cells taken in cell order.
 use Prim.Native.Nat.{ℕ, zero, suc, _+_}
 use mathlib.Core.Bool.{Bool, cond, _&&_, not}
 use mathlib.Core.List.{List, [], _∷_, _++_}
 use mathlib.Core.Option.{Option, none, some}
 use lib.Dec.{leb}
 use lib.ListN.{length, take}
-use Rattle.model.specs.Lists.{keep, has, whilst, get}
+use Rattle.model.specs.Lists.{keep, has, whilst}
 use Rattle.model.specs.Cells.{Cell, same, bias}
+use Rattle.model.specs.Masks.{touching}
 use Rattle.model.specs.Occupancy.{Occupancy, occupied}
 
--- The list that was found, or an empty one.
-abbrev pub orEmpty : Option (List Cell) → List Cell
-orEmpty none = []
-orEmpty (some l) = l
-
--- The list of a cell.
-abbrev pub listOf : List (Cell × List Cell) → Cell → List Cell
-listOf lists c = orEmpty (get same lists c)
-
 -- Visit the first of the queue, and queue and mark those of its list that are not marked; n is the most cells to visit.
-abbrev pub visit : List (Cell × List Cell) → ℕ → List Cell → List Cell → List Cell
-visit lists zero queue marked = []
-visit lists (suc n) [] marked = []
-visit lists (suc n) (c ∷ queue) marked =
-    let new : List Cell = keep (λ d. not (has same marked d)) (listOf lists c) in
-    c ∷ visit lists n (queue ++ new) (marked ++ new)
+abbrev pub visit : (Cell → List Cell) → ℕ → List Cell → List Cell → List Cell
+visit list zero queue marked = []
+visit list (suc n) [] marked = []
+visit list (suc n) (c ∷ queue) marked =
+    let new : List Cell = keep (λ d. not (has same marked d)) (list c) in
+    c ∷ visit list n (queue ++ new) (marked ++ new)
 
--- The whole flood: an unoccupied seed gives nothing.
-abbrev pub wholeFlood : Occupancy → Cell → List Cell
-wholeFlood o seed =
-    cond (has same (occupied o) seed) (visit (o .lists) (length (o .lists)) (seed ∷ []) (seed ∷ [])) []
+-- The whole flood: each cell's list has the touching occupied cells; an unoccupied seed gives nothing.
+abbrev pub wholeFlood : (Cell → Cell → Bool) → Occupancy → Cell → List Cell
+wholeFlood touch o seed =
+    cond (has same (occupied o) seed) (visit (touching touch (occupied o)) (length (occupied o)) (seed ∷ []) (seed ∷ [])) []
 
 -- A depth is no depth, or a signed 32-bit number d, kept as d + 2^31.
 abbrev pub Depth : Type 0
@@ -55,7 +47,7 @@ pub record Flood : Type 0 where
   pub wasAll : Bool
 
 -- The first cells of the flood as the depth leaves it, up to the budget.
-abbrev pub flood : Occupancy → Cell → Depth → ℕ → Flood
-flood o seed depth budget =
-    let l : List Cell = cutAt depth seed (wholeFlood o seed) in
+abbrev pub flood : (Cell → Cell → Bool) → Occupancy → Cell → Depth → ℕ → Flood
+flood touch o seed depth budget =
+    let l : List Cell = cutAt depth seed (wholeFlood touch o seed) in
     record { cells = take budget l; number = length (take budget l); wasAll = leb (length l) budget }

@@ -9,11 +9,15 @@ pub mod Tables
 pub mod Values
 pub mod Rows
 pub mod Touching
+pub mod Bits
+pub mod Masks
 pub mod Walks
+pub mod Slots
 pub mod Occupied
 pub mod Net
 pub mod Visits
 pub mod Floods
+pub mod Floods2
 pub mod Keys
 pub mod Takes
 pub mod Fine

@@ -1,5 +1,7 @@
 pub mod Lists
 pub mod Cells
+pub mod Masks
+pub mod Places
 pub mod Occupancy
 pub mod Flood
 pub mod Groups

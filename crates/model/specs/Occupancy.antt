@@ -4,13 +4,14 @@ use mathlib.Core.Bool.{Bool, false, cond}
 use mathlib.Core.List.{List, [], _∷_, _++_}
 use mathlib.Core.Option.{Option, none, some}
 use lib.Dec.{eqb, ltb}
-use Rattle.model.specs.Lists.{keep, any, has, without, each, add, run, keys, get, put, dropKey, change}
+use Rattle.model.specs.Lists.{any, has, without, each, add, run, keys, get, put, dropKey}
 use Rattle.model.specs.Cells.{Cell, same, below}
+use Rattle.model.specs.Masks.{masked}
 
--- Where each entity stands; the occupied cells, each with its list of occupied neighbours in list order; both net lists.
+-- Where each entity stands; the occupied cells, each with its mask; both net lists.
 pub record Occupancy : Type 0 where
   pub entities : List (ℕ × Cell)
-  pub lists : List (Cell × List Cell)
+  pub masks : List (Cell × ℕ)
   pub newlyOccupied : List Cell
   pub newlyEmptied : List Cell
 
@@ -30,23 +31,23 @@ events b = each remove (b .removals) ++ each (λ (m : ℕ × Cell). moveTo (m .0
 
 -- No entity, no cell.
 abbrev pub nothing : Occupancy
-nothing = record { entities = []; lists = []; newlyOccupied = []; newlyEmptied = [] }
+nothing = record { entities = []; masks = []; newlyOccupied = []; newlyEmptied = [] }
 
 -- The occupied cells.
 abbrev pub occupied : Occupancy → List Cell
-occupied o = keys (o .lists)
+occupied o = keys (o .masks)
 
 -- Whether some entity stands in the cell.
 abbrev pub standsIn : List (ℕ × Cell) → Cell → Bool
 standsIn entities c = any (λ (p : ℕ × Cell). same c (p .1)) entities
 
--- The same cells, lists and net lists with other entities.
+-- The same cells, masks and net lists with other entities.
 abbrev pub withEntities : List (ℕ × Cell) → Occupancy → Occupancy
-withEntities l o = record { entities = l; lists = o .lists; newlyOccupied = o .newlyOccupied; newlyEmptied = o .newlyEmptied }
+withEntities l o = record { entities = l; masks = o .masks; newlyOccupied = o .newlyOccupied; newlyEmptied = o .newlyEmptied }
 
 -- Both net lists start empty in each batch.
 abbrev pub startBatch : Occupancy → Occupancy
-startBatch o = record { entities = o .entities; lists = o .lists; newlyOccupied = []; newlyEmptied = [] }
+startBatch o = record { entities = o .entities; masks = o .masks; newlyOccupied = []; newlyEmptied = [] }
 
 -- What an event comes to: an entity leaves a cell, or enters one.
 pub data Passage : Type 0 where
@@ -71,24 +72,24 @@ passages entities (moveTo e c) =
     cond (isAt (get eqb entities e) c) [] (leavesFrom e (get eqb entities e) ++ (enters e c ∷ []))
 
 module _ (touch : Cell → Cell → Bool) where
-  -- A cell entered while empty gets the list of its occupied neighbours in cell order and is added at the end of each of their
-  -- lists; if it was in the newly emptied list it leaves that, else it joins the newly occupied list.
+  -- A cell entered while empty joins the occupied cells, whose masks are then exact; if it was in the newly emptied list it leaves
+  -- that, else it joins the newly occupied list.
   abbrev pub openCell : Cell → Occupancy → Occupancy
   openCell c o =
       record {
         entities = o .entities;
-        lists = put below c (keep (touch c) (occupied o)) (change (λ d l. cond (touch c d) (l ++ (c ∷ [])) l) (o .lists));
+        masks = masked touch (add below c (occupied o));
         newlyOccupied = cond (has same (o .newlyEmptied) c) (o .newlyOccupied) (add below c (o .newlyOccupied));
         newlyEmptied = without same c (o .newlyEmptied);
       }
 
-  -- A cell left by its last entity is taken from each neighbour's list, the rest keep their order; if it was in the newly occupied
-  -- list it leaves that list, else it joins the newly emptied list.
+  -- A cell left by its last entity leaves the occupied cells, whose masks are then exact; if it was in the newly occupied list it
+  -- leaves that list, else it joins the newly emptied list.
   abbrev pub closeCell : Cell → Occupancy → Occupancy
   closeCell c o =
       record {
         entities = o .entities;
-        lists = change (λ d l. cond (touch c d) (without same c l) l) (dropKey same c (o .lists));
+        masks = masked touch (without same c (occupied o));
         newlyOccupied = without same c (o .newlyOccupied);
         newlyEmptied = cond (has same (o .newlyOccupied) c) (o .newlyEmptied) (add below c (o .newlyEmptied));
       }

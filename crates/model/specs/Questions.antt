@@ -2,13 +2,14 @@
 use Prim.Native.Nat.{ℕ}
 use mathlib.Core.Bool.{Bool, cond}
 use mathlib.Core.List.{List, [], _∷_}
-use mathlib.Core.Option.{Option}
+use mathlib.Core.Option.{Option, none, some}
 use lib.Dec.{eqb}
+use lib.Count.{ones}
 use Rattle.component.specs.Around.{around}
 use Rattle.model.specs.Lists.{keep, has, keys, get}
 use Rattle.model.specs.Cells.{Cell, same}
 use Rattle.model.specs.Occupancy.{occupied}
-use Rattle.model.specs.Flood.{listOf}
+use Rattle.model.specs.Masks.{touching}
 use Rattle.model.specs.Groups.{Group}
 use Rattle.model.specs.Update.{State}
 
@@ -41,11 +42,20 @@ groupBy s g = get eqb (s .records) g
 abbrev pub idList : State → List ℕ
 idList s = keys (s .records)
 
--- Nearby: the cell, then its list in list order.
-abbrev pub nearby : State → Cell → Listed Cell
-nearby s c =
+-- Nearby: the cell, then the touching occupied cells in cell order.
+abbrev pub nearby : (Cell → Cell → Bool) → State → Cell → Listed Cell
+nearby touch s c =
     let found : Bool = has same (occupied (s .occupancy)) c in
-    record { found = found; list = cond found (c ∷ listOf (s .occupancy .lists) c) [] }
+    record { found = found; list = cond found (c ∷ touching touch (occupied (s .occupancy)) c) [] }
+
+-- The number of ones in a mask, if there is one.
+abbrev pub onesOf : Option ℕ → Option ℕ
+onesOf none = none
+onesOf (some m) = some (ones m)
+
+-- A cell's neighbour count: the number of ones in its mask.
+abbrev pub neighbourCount : State → Cell → Option ℕ
+neighbourCount s c = onesOf (get same (s .occupancy .masks) c)
 
 -- Cube: the centre first, then the neighbours of radius r in order, occupied ones only.
 abbrev pub cube : State → Cell → ℕ → Listed Cell

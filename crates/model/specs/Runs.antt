@@ -44,15 +44,15 @@ renamed name none = none
 renamed name (some g) = some (name g)
 
 -- What two states show of the grid is equal, the ids by a renaming that keeps their order.
-pub record SameOn (grid : ℕ) (s t : State) : Type 0 where
+pub record SameOn (touch : Cell → Cell → Bool) (grid : ℕ) (s t : State) : Type 0 where
   -- who stands where
   pub entities : keep (λ (p : ℕ × Cell). onGrid grid (p .1)) (s .occupancy .entities) ≡ keep (λ (p : ℕ × Cell). onGrid grid (p .1)) (t .occupancy .entities)
-  -- the occupied cells with their lists in list order
-  pub lists : only (onGrid grid) (s .occupancy .lists) ≡ only (onGrid grid) (t .occupancy .lists)
+  -- the occupied cells with their masks
+  pub masks : only (onGrid grid) (s .occupancy .masks) ≡ only (onGrid grid) (t .occupancy .masks)
   pub newlyOccupied : keep (onGrid grid) (s .occupancy .newlyOccupied) ≡ keep (onGrid grid) (t .occupancy .newlyOccupied)
   pub newlyEmptied : keep (onGrid grid) (s .occupancy .newlyEmptied) ≡ keep (onGrid grid) (t .occupancy .newlyEmptied)
   -- floods from every seed with every depth and budget
-  pub floods : (seed : Cell) → T (onGrid grid seed) → (depth : Depth) (budget : ℕ) → flood (s .occupancy) seed depth budget ≡ flood (t .occupancy) seed depth budget
+  pub floods : (seed : Cell) → T (onGrid grid seed) → (depth : Depth) (budget : ℕ) → flood touch (s .occupancy) seed depth budget ≡ flood touch (t .occupancy) seed depth budget
   -- the ids, renamed
   pub name : ℕ → ℕ
   pub ids : only (onGrid grid) (t .groups .ids) ≡ change (λ c g. name g) (only (onGrid grid) (s .groups .ids))

@@ -1,3 +1,4 @@
+pub mod MasksExact
 pub mod NetExact
 pub mod FloodExact
 pub mod StaysConsistent

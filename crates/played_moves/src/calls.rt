@@ -15,7 +15,7 @@ use yard::update;
 ghost use Prim.Native.Nat.{_≤_};
 
 // What the number given back is told as, among the words.
-const ANSWER: u64 = 73740;
+const ANSWER: u64 = 48140;
 
 // The events that a call is told of, how many words of the batch are written, and how many of the batch and of the yard are lent.
 pub struct Stand {
@@ -105,18 +105,18 @@ pub fn gather(batch: &mut [u64; 8192], numbers: &[u64; 64], letter: u8, s: Stand
 }
 
 // All words of the yard are compared with those of another.
-fn compared(words: &[u64; 294960], wanted: u64, line: u64, v: Verdict) -> Verdict
-    requires { ⌜ wanted ≤ 221220 ⌝ }
+fn compared(words: &[u64; 192560], wanted: u64, line: u64, v: Verdict) -> Verdict
+    requires { ⌜ wanted ≤ 144420 ⌝ }
 {
     let at = difference(words, YARD, wanted);
-    if at < 73740 {
+    if at < 48140 {
         return judged(v, line, at, get(words, at), get(words, wanted + at));
     }
     v
 }
 
 // The number given back is the wanted one; where the call refused, all words are those from before it.
-fn answered(words: &[u64; 294960], n: u64, wanted: u64, line: u64, v: Verdict) -> Verdict {
+fn answered(words: &[u64; 192560], n: u64, wanted: u64, line: u64, v: Verdict) -> Verdict {
     let w = judged(v, line, ANSWER, n, wanted);
     if n == 0 {
         return w;
@@ -144,7 +144,7 @@ fn make_update(words: &mut [u64], batch: &[u64], s: Stand) -> u64 {
 
 // The first id, and the number that is wanted.
 fn run_fresh(
-    words: &mut [u64; 294960],
+    words: &mut [u64; 192560],
     numbers: &[u64; 64],
     s: Stand,
     line: u64,
@@ -158,7 +158,7 @@ fn run_fresh(
 
 // The number that is wanted.
 fn run_update(
-    words: &mut [u64; 294960],
+    words: &mut [u64; 192560],
     batch: &[u64; 8192],
     numbers: &[u64; 64],
     s: Stand,
@@ -172,7 +172,7 @@ fn run_update(
 
 // What the letter says of the yard: a call; a word is changed by hand; it is kept, or put back; it is compared with the wanted state.
 pub fn call(
-    words: &mut [u64; 294960],
+    words: &mut [u64; 192560],
     batch: &[u64; 8192],
     numbers: &[u64; 64],
     letter: u8,
@@ -184,7 +184,7 @@ pub fn call(
         b'f' => run_fresh(words, numbers, s, line, v),
         b'u' => run_update(words, batch, numbers, s, line, v),
         b'w' => {
-            put(words, numbers[0] % 73740, numbers[1]);
+            put(words, numbers[0] % 48140, numbers[1]);
             v
         }
         b'k' => {

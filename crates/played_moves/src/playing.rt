@@ -57,7 +57,7 @@ fn known(letter: u8, line: u64, v: Verdict) -> Verdict {
 
 // What a line says is done once; the batch is empty after an update.
 fn play_step(
-    words: &mut [u64; 294960],
+    words: &mut [u64; 192560],
     batch: &mut [u64; 8192],
     numbers: &[u64; 64],
     letter: u8,
@@ -85,7 +85,7 @@ fn times(numbers: &[u64; 64]) -> u64 {
 
 // What a line says is done, each time with the next numbers.
 fn play_line(
-    words: &mut [u64; 294960],
+    words: &mut [u64; 192560],
     batch: &mut [u64; 8192],
     numbers: &mut [u64; 64],
     letter: u8,
@@ -125,7 +125,7 @@ fn begin(text: &[u8; 65536], p: Progress, to: usize) -> Progress {
         from: p.at,
         to,
         round: Round {
-            stand: no_events(73740),
+            stand: no_events(48140),
             verdict: all_right(),
         },
     }
@@ -133,7 +133,7 @@ fn begin(text: &[u8; 65536], p: Progress, to: usize) -> Progress {
 
 // A line is read and played.
 fn turn(
-    words: &mut [u64; 294960],
+    words: &mut [u64; 192560],
     batch: &mut [u64; 8192],
     text: &[u8; 65536],
     p: Progress,
@@ -163,14 +163,14 @@ fn has_line(text: &[u8; 65536], p: Progress) -> bool {
 }
 
 // All lines are played. Each takes a byte at least, so no text has more lines than the turns that are counted down.
-fn play_all(words: &mut [u64; 294960], batch: &mut [u64; 8192], text: &[u8; 65536]) {
+fn play_all(words: &mut [u64; 192560], batch: &mut [u64; 8192], text: &[u8; 65536]) {
     let mut p = Progress {
         at: 0,
         number: 1,
         from: 0,
         to: 0,
         round: Round {
-            stand: no_events(73740),
+            stand: no_events(48140),
             verdict: all_right(),
         },
     };
@@ -186,7 +186,7 @@ fn play_all(words: &mut [u64; 294960], batch: &mut [u64; 8192], text: &[u8; 6553
 pub fn play() {
     let mut text = [0u8; 65536];
     io::read_full(STDIN_FILENO, &mut text);
-    let mut words = [0u64; 294960];
+    let mut words = [0u64; 192560];
     let mut batch = [0u64; 8192];
     play_all(&mut words, &mut batch, &text);
 }

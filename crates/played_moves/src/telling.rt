@@ -48,7 +48,7 @@ fn say_name(text: &[u8], from: usize, to: usize) {
     }
 }
 
-// The line of a case. The number given back is told as word 73,740.
+// The line of a case. The number given back is told as word 48,140.
 pub fn tell(text: &[u8], from: usize, to: usize, v: Verdict) {
     say_name(text, from, to);
     if !v.is_wrong {

@@ -6,44 +6,19 @@ use crate::yards::put;
 ghost use Prim.Native.Nat.{_<_};
 
 // What each word of a row is: the place of its number in the line, and 32 more for a coordinate, which is stored as x + 2^31.
-const ROWS: [u8; 49] = [
+const ROWS: [u8; 24] = [
     // an entity
     0,
     1,
     36,
     35,
     34,
-    // an occupied cell with its list
+    // a cell with its mask
     0,
     35,
     34,
     33,
     5,
-    6,
-    7,
-    8,
-    9,
-    10,
-    11,
-    12,
-    13,
-    14,
-    15,
-    16,
-    17,
-    18,
-    19,
-    20,
-    21,
-    22,
-    23,
-    24,
-    25,
-    26,
-    27,
-    28,
-    29,
-    30,
     // a cell with its id, and a cell alone
     0,
     35,
@@ -82,32 +57,32 @@ fn table_of(letter: u8) -> Table {
         b'o' => Table {
             head: 1,
             from: 20488,
-            width: 30,
+            width: 5,
             row: 5,
         },
         b'n' => Table {
             head: 2,
-            from: 51208,
+            from: 25608,
             width: 4,
-            row: 35,
+            row: 10,
         },
         b'l' => Table {
             head: 3,
-            from: 55304,
+            from: 29704,
             width: 4,
-            row: 35,
+            row: 10,
         },
         b'i' => Table {
             head: 4,
-            from: 59400,
+            from: 33800,
             width: 5,
-            row: 35,
+            row: 10,
         },
         b'g' => Table {
             head: 5,
-            from: 64520,
+            from: 38920,
             width: 9,
-            row: 40,
+            row: 15,
         },
         _ => Table {
             head: 7,
@@ -120,7 +95,7 @@ fn table_of(letter: u8) -> Table {
 
 // The word of a row that its number of the line comes to.
 fn word_of(numbers: &[u64; 64], at: u64) -> u64 {
-    let place = ROWS[(at % 49) as usize];
+    let place = ROWS[(at % 24) as usize];
     let n = numbers[(place % 32) as usize];
     if place < 32 {
         return n;
@@ -132,17 +107,17 @@ fn word_of(numbers: &[u64; 64], at: u64) -> u64 {
 fn row_at(from: u64, n: u64, width: u64) -> u64
     ensures { λ r. ⌜ r < 1000000 ⌝ }
 {
-    WANTED + from % 73740 + n % 4096 * (width % 32)
+    WANTED + from % 48140 + n % 4096 * (width % 32)
 }
 
 // One row more of the table that a letter names.
-fn put_row(words: &mut [u64; 294960], numbers: &[u64; 64], letter: u8) {
+fn put_row(words: &mut [u64; 192560], numbers: &[u64; 64], letter: u8) {
     let t = table_of(letter);
     let head = WANTED + t.head % 8;
     let n = get(words, head) % 4096;
     put(words, head, n + 1);
     let at = row_at(t.from, n, t.width);
-    let row = t.row % 49;
+    let row = t.row % 24;
     let width = t.width % 32;
     let mut i = 0;
     while i < width {
@@ -152,10 +127,10 @@ fn put_row(words: &mut [u64; 294960], numbers: &[u64; 64], letter: u8) {
 }
 
 // The wanted state is begun with its next id, or gets one row more; an occupied cell has a row of two tables.
-pub fn build(words: &mut [u64; 294960], numbers: &[u64; 64], letter: u8) {
+pub fn build(words: &mut [u64; 192560], numbers: &[u64; 64], letter: u8) {
     match letter {
         b's' => {
-            fill(words, WANTED, 73736);
+            fill(words, WANTED, 48136);
             put(words, WANTED + 6, numbers[0]);
         }
         b'e' | b'n' | b'l' | b'g' => put_row(words, numbers, letter),

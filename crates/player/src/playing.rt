@@ -103,7 +103,7 @@ fn put_ids(state: &[u64], from: usize, n: usize, output: &mut [u8], used: usize)
 
 // The lines of a batch: the first alone where it is refused, else those of both net lists and of all cells too.
 fn answer(state: &[u64], output: &mut [u8], used: usize, number: u64, code: u64) -> usize
-    requires { ⌜ (73736 ≤ length (now state)) × (used ≤ length (now output)) ⌝ }
+    requires { ⌜ (48136 ≤ length (now state)) × (used ≤ length (now output)) ⌝ }
     ensures { λ r. ⌜ r ≤ length (now (output .entry)) ⌝ }
 {
     let entered = rows(state[2]);
@@ -151,7 +151,7 @@ fn last_line(v: Events) -> Line {
 
 // A batch is read and answered.
 fn turn(state: &mut [u64], input: &mut [u8], output: &mut [u8], p: Progress) -> Progress
-    requires { ⌜ (73736 ≤ length (now state)) × Plays (length (now input)) (length (now output)) p ⌝ }
+    requires { ⌜ (48136 ≤ length (now state)) × Plays (length (now input)) (length (now output)) p ⌝ }
     ensures { λ r. ⌜ Plays (length (now (input .entry))) (length (now (output .entry))) r ⌝ }
 {
     let mut removals = [0u64; 1024];
@@ -189,7 +189,7 @@ fn turn(state: &mut [u64], input: &mut [u8], output: &mut [u8], p: Progress) -> 
 
 // All batches are read and answered. The turns are counted down from a number that no input uses up, so the loop is seen to end.
 fn play_all(state: &mut [u64], input: &mut [u8], output: &mut [u8])
-    requires { ⌜ 73736 ≤ length (now state) ⌝ }
+    requires { ⌜ 48136 ≤ length (now state) ⌝ }
 {
     let mut p = Progress {
         reader: first_reader(),
@@ -208,7 +208,7 @@ fn play_all(state: &mut [u64], input: &mut [u8], output: &mut [u8])
 
 // The script on standard input is played in a fresh yard, whose first id is 0.
 pub fn play() {
-    let mut state = [0u64; 73736];
+    let mut state = [0u64; 48136];
     let mut input = [0u8; 65536];
     let mut output = [0u8; 65536];
     fresh(&mut state, 0);

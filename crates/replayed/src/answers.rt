@@ -39,25 +39,42 @@ fn is_listed(a: Listing, found: bool, n: usize) -> bool {
     }
 }
 
-// Whether behind its first cell an answer has the touching cells of the numbers at a place.
-fn is_list(page: &[u64; 8192], at: usize, answer: &[u64; 4096], c: Cell, n: usize) -> bool {
-    let mut same = true;
+// Whether the k-th cell of an answer is one of the touching cells of the numbers at a place.
+fn is_near(
+    page: &[u64; 8192],
+    at: usize,
+    answer: &[u64; 4096],
+    k: usize,
+    c: Cell,
+    n: usize,
+) -> bool {
+    let mut found = false;
     let mut j = 0;
     while j < n {
-        let d = touching(c, word(page, at, j));
-        same = same & is_cell(answer, on(j, 1), d);
+        found = found | is_cell(answer, k, touching(c, word(page, at, j)));
         j += 1;
+    }
+    found
+}
+
+// Whether each cell of an answer behind its first is one of the touching cells of the numbers at a place, in any order.
+fn are_near(page: &[u64; 8192], at: usize, answer: &[u64; 4096], c: Cell, n: usize) -> bool {
+    let mut same = true;
+    let mut k = 0;
+    while k < n {
+        same = same & is_near(page, at, answer, on(k, 1), c, n);
+        k += 1;
     }
     same
 }
 
-// Whether a cell and its list are what is near the cell.
+// Whether a cell and those that it touches, as a set, are what is near the cell.
 fn is_nearby(page: &[u64; 8192], at: usize, state: &[u64], c: Cell, n: usize) -> bool {
     let mut answer = [0u64; 4096];
     let a = ask::nearby(state, component::cell_id(c), &mut answer);
     let listed = is_listed(a, true, on(n, 1));
     let first = is_cell(&answer, 0, c);
-    let rest = is_list(page, at, &answer, c, n);
+    let rest = are_near(page, at, &answer, c, n);
     listed & first & rest
 }
 
@@ -82,7 +99,7 @@ fn is_named(names: &mut [u64; 1024], group: u64, is_new: bool, id: u64) -> bool 
     names[g] == id
 }
 
-// The k-th cell: its group and its list.
+// The k-th cell: its group and those that it touches.
 fn cell_shown(
     page: &[u64; 8192],
     o: Origin,
@@ -269,6 +286,42 @@ fn are_known(
     same
 }
 
+// Whether the k-th cell of an answer is one of the known cells of the numbers at a place.
+fn is_known(
+    page: &[u64; 8192],
+    at: usize,
+    answer: &[u64; 4096],
+    k: usize,
+    known: &[u64; 4096],
+    n: usize,
+) -> bool {
+    let mut found = false;
+    let mut j = 0;
+    while j < n {
+        let c = known_at(known, count_at(page, at, j, 1024));
+        found = found | is_cell(answer, k, c);
+        j += 1;
+    }
+    found
+}
+
+// Whether each cell of an answer is one of the known cells of the numbers at a place, in any order.
+fn are_among(
+    page: &[u64; 8192],
+    at: usize,
+    answer: &[u64; 4096],
+    known: &[u64; 4096],
+    n: usize,
+) -> bool {
+    let mut same = true;
+    let mut k = 0;
+    while k < n {
+        same = same & is_known(page, at, answer, k, known, n);
+        k += 1;
+    }
+    same
+}
+
 // A depth that is told as a number, if there is one.
 fn depth_of(deep: u64, n: u64) -> Depth {
     if deep == 0 {
@@ -293,7 +346,8 @@ fn is_flooding(a: Flooding, found: bool, n: usize, was_all: bool) -> bool {
     }
 }
 
-// A flood: seed, deep, depth, budget; found, number, whether that was all, and its cells.
+// A flood: seed, deep, depth, budget; found, number, whether that was all, and its cells. It is compared as a set, and only where no
+// depth and no budget cut it, as the two take touching cells in different orders.
 fn flood_shown(
     page: &[u64; 8192],
     at: usize,
@@ -309,10 +363,11 @@ fn flood_shown(
     let n = count_at(page, at, 8, 1024);
     let was_all = word(page, at, 9) == 1;
     let told = is_flooding(a, found, n, was_all);
-    let each = are_known(page, on(at, 10), &answer, known, n);
+    let each = are_among(page, on(at, 10), &answer, known, n);
+    let cut = (word(page, at, 4) != 0) | !was_all;
     Block {
         at: on(on(at, 10), n),
-        same: told & each,
+        same: cut | (told & each),
     }
 }
 

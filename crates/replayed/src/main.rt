@@ -138,7 +138,7 @@ fn replay(input: &mut [u8; 65536], page: &mut [u64; 8192], state: &mut [u64]) ->
 }
 
 fn main() {
-    let mut state = [0u64; 73736];
+    let mut state = [0u64; 48136];
     let mut input = [0u8; 65536];
     let mut page = [0u64; 8192];
     told(replay(&mut input, &mut page, &mut state));

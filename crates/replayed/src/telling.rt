@@ -76,7 +76,7 @@ pub fn told(c: Counts) {
     let different = c.different;
     line(c.batches, b" batches\n");
     line(c.refused, b" of them refused\n");
-    line(c.cells, b" cells with their lists\n");
+    line(c.cells, b" cells with those that they touch\n");
     if different == 0 {
         write_from(b"all the same\n", 0);
         return;

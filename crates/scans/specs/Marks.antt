@@ -15,7 +15,7 @@ pub record Marked (l : List Cell) (at : ℕ → Cell) (m : ℕ) (marks : List �
 
 -- What marking rows asks: a table of m rows, the rows of n entities, and m marks that are not set.
 pub record Markable (ents : List ℕ) (n : ℕ) (words : List ℕ) (m : ℕ) (marks : List ℕ) : Type 0 where
-  pub table : isTable4 30 m words ≡ true
+  pub table : isTable4 5 m words ≡ true
   pub there : 5 * n ≤ length ents
   pub space : m ≤ length marks
   pub clear : (j : ℕ) → j < m → getD marks j 0 ≡ 0

@@ -18,12 +18,12 @@ ghost use Rattle.scans.specs.Marks.{Markable, Marked};
 
 // Whether n rows of ids have the same cells as n rows of cells.
 pub fn same_cells(cells: &[u64], ids: &[u64], n: usize) -> bool
-    requires { ⌜ (30 * n ≤ length (now cells)) × (5 * n ≤ length (now ids)) ⌝ }
-    ensures { λ r. ⌜ r ≡ equal same (keys (table4 5 n (now (ids .entry)))) (keys (table4 30 n (now (cells .entry)))) ⌝ }
+    requires { ⌜ (5 * n ≤ length (now cells)) × (5 * n ≤ length (now ids)) ⌝ }
+    ensures { λ r. ⌜ r ≡ equal same (keys (table4 5 n (now (ids .entry)))) (keys (table4 5 n (now (cells .entry)))) ⌝ }
 {
     let mut i = 0;
     while i < n {
-        if !component::same_cell(cell_at(ids, 5 * i), cell_at(cells, 30 * i)) {
+        if !component::same_cell(cell_at(ids, 5 * i), cell_at(cells, 5 * i)) {
             return false;
         }
         i += 1;
@@ -34,11 +34,11 @@ pub fn same_cells(cells: &[u64], ids: &[u64], n: usize) -> bool
 // The rows of the cells that the entities stand in are marked; whether each of these cells has a row.
 fn mark_rows(ents: &[u64], n: usize, cells: &[u64], m: usize, marks: &mut [u64]) -> bool
     requires { ⌜ Markable (now ents) n (now cells) m (now marks) ⌝ }
-    ensures { λ r. ⌜ (r ≡ all (has same (keys (table4 30 m (now (cells .entry))))) (values (entitiesIn n (now (ents .entry))))) × (r ≡ true → Marked (values (entitiesIn n (now (ents .entry)))) (λ j. cellAt (now (cells .entry)) (30 * j)) m (now (marks .exit))) × (length (now (marks .exit)) ≡ length (now (marks .entry))) ⌝ }
+    ensures { λ r. ⌜ (r ≡ all (has same (keys (table4 5 m (now (cells .entry))))) (values (entitiesIn n (now (ents .entry))))) × (r ≡ true → Marked (values (entitiesIn n (now (ents .entry)))) (λ j. cellAt (now (cells .entry)) (5 * j)) m (now (marks .exit))) × (length (now (marks .exit)) ≡ length (now (marks .entry))) ⌝ }
 {
     let mut i = 0;
     while i < n {
-        let p = find4(cells, 30, m, cell_at(ents, 5 * i + 1));
+        let p = find4(cells, 5, m, cell_at(ents, 5 * i + 1));
         match p {
             Place::Found(j) => {
                 marks[j] = 1;
@@ -69,8 +69,8 @@ fn all_marked(marks: &[u64], n: usize) -> bool
 
 // Whether the cells of m rows are exactly those that the entities stand in.
 pub fn stood_in(ents: &[u64], n: usize, cells: &[u64], m: usize) -> bool
-    requires { ⌜ (isTable4 30 m (now cells) ≡ true) × (5 * n ≤ length (now ents)) × (m ≤ 1024) ⌝ }
-    ensures { λ r. ⌜ r ≡ equal same (keys (table4 30 m (now (cells .entry)))) (ascending below (values (entitiesIn n (now (ents .entry))))) ⌝ }
+    requires { ⌜ (isTable4 5 m (now cells) ≡ true) × (5 * n ≤ length (now ents)) × (m ≤ 1024) ⌝ }
+    ensures { λ r. ⌜ r ≡ equal same (keys (table4 5 m (now (cells .entry)))) (ascending below (values (entitiesIn n (now (ents .entry))))) ⌝ }
 {
     let mut marks = [0u64; 1024];
     if !mark_rows(ents, n, cells, m, &mut marks) {
@@ -126,12 +126,12 @@ pub fn cells_in_range(s: &[u64], w: usize, at: usize, n: usize) -> bool
 
 // Whether each of n cells is among those of m rows; or, where `wanted` is not set, none is.
 pub fn all_held(net: &[u64], n: usize, cells: &[u64], m: usize, wanted: bool) -> bool
-    requires { ⌜ (isTable4 30 m (now cells) ≡ true) × (4 * n ≤ length (now net)) ⌝ }
-    ensures { λ r. ⌜ r ≡ all (λ c. cond wanted (has same (keys (table4 30 m (now (cells .entry)))) c) (not (has same (keys (table4 30 m (now (cells .entry)))) c))) (netIn n (now (net .entry))) ⌝ }
+    requires { ⌜ (isTable4 5 m (now cells) ≡ true) × (4 * n ≤ length (now net)) ⌝ }
+    ensures { λ r. ⌜ r ≡ all (λ c. cond wanted (has same (keys (table4 5 m (now (cells .entry)))) c) (not (has same (keys (table4 5 m (now (cells .entry)))) c))) (netIn n (now (net .entry))) ⌝ }
 {
     let mut i = 0;
     while i < n {
-        let h = contains(cells, 30, m, cell_at(net, 4 * i));
+        let h = contains(cells, 5, m, cell_at(net, 4 * i));
         if (wanted & !h) | (!wanted & h) {
             return false;
         }

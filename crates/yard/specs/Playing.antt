@@ -31,7 +31,7 @@ judged n = cond (ltb mostEntities (n .entities)) 6 (cond (ltb mostCells (n .cell
 -- Each table has room for its most rows and one more.
 pub record Roomy (ents cells crowd occ emp : List ℕ) : Type 0 where
   pub ents-room : 5 * suc mostEntities ≤ length ents
-  pub cells-room : 30 * suc mostCells ≤ length cells
+  pub cells-room : 5 * suc mostCells ≤ length cells
   pub crowd-room : 5 * suc mostCells ≤ length crowd
   pub occ-room : 4 * suc mostCells ≤ length occ
   pub emp-room : 4 * suc mostCells ≤ length emp

@@ -23,10 +23,10 @@ Blank s = s ≡ replicate (length s) 0
 -- The map of the state of words w is copied out; both net lists are still empty.
 pub record Opened (w ents cells crowd : List ℕ) (n : Counts) : Type 0 where
   pub entities-are : ents ≡ entitiesImage (length ents) (decode w .occupancy .entities)
-  pub lists-are : cells ≡ cellsImage (length cells) (decode w .occupancy .lists)
+  pub masks-are : cells ≡ cellsImage (length cells) (decode w .occupancy .masks)
   pub crowd-is : crowd ≡ idsImage (length crowd) (crowdOf (decode w .occupancy))
   pub entities-count : n .entities ≡ length (decode w .occupancy .entities)
-  pub cells-count : n .cells ≡ length (decode w .occupancy .lists)
+  pub cells-count : n .cells ≡ length (decode w .occupancy .masks)
   pub occupied-none : n .occupied ≡ 0
   pub emptied-none : n .emptied ≡ 0
 

@@ -1,4 +1,5 @@
 // The yard's calls on a state in lent memory: a fresh state, the test of consistency, the update, and the questions.
+pub use ask::CountOf;
 pub use ask::Depth;
 pub use ask::Flooding;
 pub use ask::GroupOf;
@@ -15,6 +16,7 @@ pub use ask::group;
 pub use ask::id_of;
 pub use ask::ids;
 pub use ask::nearby;
+pub use ask::neighbour_count;
 pub use ask::newly_emptied;
 pub use ask::newly_occupied;
 pub use ask::where_is;
@@ -268,7 +270,7 @@ fn write_front(
 {
     write_row(state, 0, head);
     store(state, ENTITIES, ents, 20480);
-    store(state, CELLS, cells, 30720);
+    store(state, CELLS, cells, 5120);
     store(state, OCCUPIED, occ, 4096);
     store(state, EMPTIED, emp, 4096);
 }
@@ -312,7 +314,7 @@ fn work(state: &mut [u64], batch: &[u64], removals: usize, moves: usize) -> u64
     ensures { λ r. ⌜ (r, now (state .exit)) ≡ done (now (state .entry)) (update touch26 (decode (now (state .entry))) (batchOf (now (batch .entry)) removals moves)) ⌝ }
 {
     let mut ents = [0u64; 20485];
-    let mut cells = [0u64; 30750];
+    let mut cells = [0u64; 5125];
     let mut crowd = [0u64; 5125];
     let mut occ = [0u64; 4100];
     let mut emp = [0u64; 4100];

@@ -55,7 +55,7 @@ fn say(text: &[u8], n: u64) {
 }
 
 // What the header of a state counts, and its next id.
-fn say_header(state: &[u64; 73736]) {
+fn say_header(state: &[u64; 48136]) {
     say(b", entities ", state[0]);
     say(b", cells ", state[1]);
     say(b", new ", state[2]);
@@ -65,7 +65,7 @@ fn say_header(state: &[u64; 73736]) {
 }
 
 // A task is done, and told in a line.
-fn do_task(state: &mut [u64; 73736], batch: &mut [u64; 5120], t: Task) {
+fn do_task(state: &mut [u64; 48136], batch: &mut [u64; 5120], t: Task) {
     let letter = t.letter;
     let count = t.count;
     let accepted = work::run_all(state, batch, letter, count);
@@ -78,7 +78,7 @@ fn do_task(state: &mut [u64; 73736], batch: &mut [u64; 5120], t: Task) {
 }
 
 // All lines are done. Each takes a byte at least, so no input has more lines than the turns that are counted down.
-fn do_all(state: &mut [u64; 73736], batch: &mut [u64; 5120], text: &[u8; 4096]) {
+fn do_all(state: &mut [u64; 48136], batch: &mut [u64; 5120], text: &[u8; 4096]) {
     let mut at = 0;
     let mut turns: u64 = 4096;
     while turns > 0 {
@@ -95,7 +95,7 @@ fn do_all(state: &mut [u64; 73736], batch: &mut [u64; 5120], text: &[u8; 4096]) 
 fn main() {
     let mut text = [0u8; 4096];
     io::read_full(STDIN_FILENO, &mut text);
-    let mut state = [0u64; 73736];
+    let mut state = [0u64; 48136];
     let mut batch = [0u64; 5120];
     do_all(&mut state, &mut batch, &text);
 }

@@ -19,7 +19,7 @@ part-result-end c = omega (arith, whole (c .args .state .now) (c .pre))
 
 returns : tie.Need-returns
 unfolding cellsFrom occupiedFrom stateLen
-returns c = let s = c .before in part-of (s .args .state .now) 20488 30720 51208 refl (omega (arith, whole (s .args .state .now) (s .pre)))
+returns c = let s = c .before in part-of (s .args .state .now) 20488 5120 25608 refl (omega (arith, whole (s .args .state .now) (s .pre)))
 
 pub cell-words-spec : {M : Type 1} → statement M
 cell-words-spec = tie.close (tie.spec sub-result part-result-start part-result-end returns)

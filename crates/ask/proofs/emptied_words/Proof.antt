@@ -19,7 +19,7 @@ part-result-end c = omega (arith, whole (c .args .state .now) (c .pre))
 
 returns : tie.Need-returns
 unfolding emptiedFrom idsFrom stateLen
-returns c = let s = c .before in part-of (s .args .state .now) 55304 4096 59400 refl (omega (arith, whole (s .args .state .now) (s .pre)))
+returns c = let s = c .before in part-of (s .args .state .now) 29704 4096 33800 refl (omega (arith, whole (s .args .state .now) (s .pre)))
 
 pub emptied-words-spec : {M : Type 1} → statement M
 emptied-words-spec = tie.close (tie.spec sub-result part-result-start part-result-end returns)

@@ -97,7 +97,7 @@ returns c =
     c .before .before .give .ensures
     ∙ cells-listed true (b .cube-into .result) (4 * b .cube-into .result) (b .cube-into .last .1 .1 .1 .1 .0) (cube (having t) (s .args .c) (s .args .radius)) (s .args .answer .now) (sym h)
     (b .cube-into .ensures .1
-    ∙ ap (λ (l : List ℕ). l ++ gather answerWords (keep (beside (s .args .radius) (s .args .c)) (keys (table4 30 (s .args .n) (s .args .cells .now))))) (first-words (replicate 4100 0) (w .write-cell .last .0) (s .args .c) (w .write-cell .ensures))
+    ∙ ap (λ (l : List ℕ). l ++ gather answerWords (keep (beside (s .args .radius) (s .args .c)) (keys (table4 5 (s .args .n) (s .args .cells .now))))) (first-words (replicate 4100 0) (w .write-cell .last .0) (s .args .c) (w .write-cell .ensures))
     ∙ ap (λ (l : List Cell). answerWords (s .args .c) ++ gather answerWords (keep (beside (s .args .radius) (s .args .c)) l)) (cells-keys (s .args .cells .now) (s .args .n) t (s .pre .0))
     ∙ cube-words (s .args .radius) (s .args .c) (above s) t (s .pre .0 .asc) true h)
     (long b) refl

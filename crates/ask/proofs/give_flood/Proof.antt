@@ -2,7 +2,7 @@
 use mathlib.Core.Path.{_≡_, sym, _∙_}
 use borrow.Author.Needs.{needs}
 use Rattle.model.specs.Flood.{flood}
-use Rattle.model.specs.Cells.{below}
+use Rattle.model.specs.Cells.{below, touch26}
 use Rattle.model.specs.Lists.{keys}
 use Rattle.table.specs.Rows.{placeOf, table4}
 use Rattle.table.specs.declared.Place.the-variants.{Found}
@@ -17,7 +17,7 @@ use Rattle.ask.proofs.give_flood.Tie as tie
 
 -- The cell stands in the row that is found.
 at : (k : tie.After-known-told) → let s = k .before .before .before .before .before .before in
-    Found (k .before .p .given .0 .0) ≡ placeOf below (keys (table4 30 (s .args .n) (s .args .cells .now))) (s .args .c)
+    Found (k .before .p .given .0 .0) ≡ placeOf below (keys (table4 5 (s .args .n) (s .args .cells .now))) (s .args .c)
 at k = sym (k .before .p .given .1) ∙ k .before .before .before .find4 .ensures
 
 find4-requires : tie.Need-find4-requires
@@ -46,7 +46,7 @@ returns c =
     let i = k .before .p .given .0 .0 in
     c .before .before .flood-from .ensures
     ∙ (λ j. flooded (sym (found-has (s .args .cells .now) (s .args .n) t (s .pre .0) (s .args .c) i (at k)) j)
-    (flood (having t .occupancy) (found-cell (s .args .cells .now) (s .args .n) t (s .pre .0) (s .args .c) i (at k) j) (depthOf (s .args .depth)) (s .args .budget)) (s .args .answer .now))
+    (flood touch26 (having t .occupancy) (found-cell (s .args .cells .now) (s .args .n) t (s .pre .0) (s .args .c) i (at k) j) (depthOf (s .args .depth)) (s .args .budget)) (s .args .answer .now))
 
 returns-2 : tie.Need-returns-2
 returns-2 c =

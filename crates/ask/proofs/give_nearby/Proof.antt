@@ -6,7 +6,7 @@ use mathlib.Core.Path.{_≡_, refl, sym, _∙_}
 use lib.ListN.{length, replicate, length-replicate}
 use borrow.Author.Needs.{needs}
 use Rattle.model.specs.Questions.{nearby}
-use Rattle.model.specs.Cells.{below}
+use Rattle.model.specs.Cells.{below, touch26}
 use Rattle.model.specs.Lists.{keys}
 use Rattle.table.specs.Rows.{placeOf, table4}
 use Rattle.table.specs.declared.Place.the-variants.{Found}
@@ -21,7 +21,7 @@ use Rattle.ask.proofs.give_nearby.Tie as tie
 
 -- The cell stands in the row that is found.
 at : (k : tie.After-known-told) → let s = k .before .before .before .before .before .before in
-    Found (k .before .p .given .0 .0) ≡ placeOf below (keys (table4 30 (s .args .n) (s .args .cells .now))) (s .args .c)
+    Found (k .before .p .given .0 .0) ≡ placeOf below (keys (table4 5 (s .args .n) (s .args .cells .now))) (s .args .c)
 at k = sym (k .before .p .given .1) ∙ k .before .before .before .find4 .ensures
 
 -- It and its list are written.
@@ -81,7 +81,7 @@ returns c =
     let s = k .before .before .before .before .before .before in
     let t = cellsIn (s .args .n) (s .args .cells .now) in
     c .before .before .give .ensures
-    ∙ cells-listed true (w .nearby-into .result) (4 * w .nearby-into .result) (w .nearby-into .last .1 .1 .1 .0) (nearby (having t) (s .args .c)) (s .args .answer .now)
+    ∙ cells-listed true (w .nearby-into .result) (4 * w .nearby-into .result) (w .nearby-into .last .1 .1 .1 .0) (nearby touch26 (having t) (s .args .c)) (s .args .answer .now)
     (sym (found-has (s .args .cells .now) (s .args .n) t (s .pre) (s .args .c) (k .before .p .given .0 .0) (at k)))
     (nearby-words (s .args .cells .now) (s .args .n) t (s .pre) (s .args .c) (k .before .p .given .0 .0) (at k) (replicate 4100 0) (w .nearby-into .last .1 .1 .1 .0) (w .nearby-into .result) (told w))
     (long w) refl
@@ -96,7 +96,7 @@ returns-2 c =
     let t = cellsIn (s .args .n) (s .args .cells .now) in
     let e = sym (m .enum-told .given .1) ∙ m .before .before .find4 .ensures in
     c .before .before .give2 .ensures
-    ∙ cells-listed false 0 0 (replicate 4100 0) (nearby (having t) (s .args .c)) (s .args .answer .now)
+    ∙ cells-listed false 0 0 (replicate 4100 0) (nearby touch26 (having t) (s .args .c)) (s .args .answer .now)
     (sym (missing-has (s .args .cells .now) (s .args .n) t (s .pre) (s .args .c) (m .enum-told .given .0 .0) e))
     (missing-words (s .args .cells .now) (s .args .n) t (s .pre) (s .args .c) (m .enum-told .given .0 .0) e) (omega arith) refl
 

@@ -19,7 +19,7 @@ part-result-end c = omega (arith, whole (c .args .state .now) (c .pre))
 
 returns : tie.Need-returns
 unfolding groupsFrom stateLen
-returns c = let s = c .before in part-of (s .args .state .now) 64520 9216 73736 refl (omega (arith, whole (s .args .state .now) (s .pre)))
+returns c = let s = c .before in part-of (s .args .state .now) 38920 9216 48136 refl (omega (arith, whole (s .args .state .now) (s .pre)))
 
 pub group-words-spec : {M : Type 1} → statement M
 group-words-spec = tie.close (tie.spec sub-result part-result-start part-result-end returns)

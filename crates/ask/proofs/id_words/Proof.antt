@@ -19,7 +19,7 @@ part-result-end c = omega (arith, whole (c .args .state .now) (c .pre))
 
 returns : tie.Need-returns
 unfolding idsFrom groupsFrom stateLen
-returns c = let s = c .before in part-of (s .args .state .now) 59400 5120 64520 refl (omega (arith, whole (s .args .state .now) (s .pre)))
+returns c = let s = c .before in part-of (s .args .state .now) 33800 5120 38920 refl (omega (arith, whole (s .args .state .now) (s .pre)))
 
 pub id-words-spec : {M : Type 1} → statement M
 id-words-spec = tie.close (tie.spec sub-result part-result-start part-result-end returns)

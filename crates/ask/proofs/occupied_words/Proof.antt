@@ -19,7 +19,7 @@ part-result-end c = omega (arith, whole (c .args .state .now) (c .pre))
 
 returns : tie.Need-returns
 unfolding occupiedFrom emptiedFrom stateLen
-returns c = let s = c .before in part-of (s .args .state .now) 51208 4096 55304 refl (omega (arith, whole (s .args .state .now) (s .pre)))
+returns c = let s = c .before in part-of (s .args .state .now) 25608 4096 29704 refl (omega (arith, whole (s .args .state .now) (s .pre)))
 
 pub occupied-words-spec : {M : Type 1} → statement M
 occupied-words-spec = tie.close (tie.spec sub-result part-result-start part-result-end returns)

@@ -16,7 +16,7 @@ use Rattle.map.specs.Laws.Cubes.{around-kept}
 use Rattle.ask.specs.Parts.{having}
 
 -- The cube of an occupied centre, and of another, in words.
-pub cube-words : (r : ℕ) (c : Cell) → Above r c → (t : List (Cell × List Cell)) → Asc below (keys t) → (b : Bool) → has same (keys t) c ≡ b
+pub cube-words : (r : ℕ) (c : Cell) → Above r c → (t : List (Cell × ℕ)) → Asc below (keys t) → (b : Bool) → has same (keys t) c ≡ b
     → gather answerWords (cond b (c ∷ keep (beside r c) (keys t)) (keep (beside r c) (keys t))) ≡ gather answerWords (cube (having t) c r .list)
 cube-words r c a t s b e =
     (λ i. gather answerWords (cond (sym e i) (c ∷ sym (around-kept r c a (keys t) s) i) (sym (around-kept r c a (keys t) s) i)))

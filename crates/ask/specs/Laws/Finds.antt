@@ -16,7 +16,7 @@ use Rattle.table.specs.Laws.Kinds.{number-lawful, cell-lawful}
 use Rattle.table.specs.Laws.Images.{table-facts}
 use Rattle.table.specs.Laws.Words.{rest-at}
 use Rattle.table.specs.Laws.Answers.{found-below, found-rest, missing-none}
-use Rattle.layout.specs.Rows.{groupOf, cornerIn, entitiesIn, idsIn, groupsIn}
+use Rattle.layout.specs.Rows.{idOf, groupOf, cornerIn, entitiesIn, cellsIn, idsIn, groupsIn}
 
 -- What stands under a key once each row's words are read.
 abbrev read : {B W : Type 0} → (B → W) → Option B → Option W
@@ -65,20 +65,36 @@ module _ (n : ℕ) (s : List ℕ) (k : ℕ) (i : ℕ) (ok : isTable1 5 n s ≡ t
       get-each eqb (λ (v : List ℕ). cellAt v 0) (table1 5 n s) k ∙ ap (read (λ (v : List ℕ). cellAt v 0)) (missing-none number number-lawful 5 n s k i ok e)
 
 module _ (n : ℕ) (s : List ℕ) (k : Cell) (i : ℕ) (ok : isTable4 5 n s ≡ true) where
-  -- A cell that is found has the id of its row.
-  pub id-found : Found i ≡ placeOf below (keys (table4 5 n s)) k → get same (idsIn n s) k ≡ some (getD s (5 * i + 4) 0)
-  unfolding idsIn
-  id-found e =
+  -- Under a cell that is found stands the number of its row.
+  number-found : Found i ≡ placeOf below (keys (table4 5 n s)) k → get same (each idOf (table4 5 n s)) k ≡ some (getD s (5 * i + 4) 0)
+  number-found e =
       let h = found-below cell cell-lawful 5 n s k i e in
       get-each same (λ (v : List ℕ). getD v 0 0) (table4 5 n s) k
       ∙ ap (read (λ (v : List ℕ). getD v 0 0)) (found-rest cell cell-lawful 5 n s k i ok e)
       ∙ ap some (word 5 n s i 4 0 (5 * i + 4) h (omega arith) (omega arith))
 
-  -- A cell that is missing has no id.
+  -- Under a cell that is missing stands nothing.
+  number-missing : Missing i ≡ placeOf below (keys (table4 5 n s)) k → get same (each idOf (table4 5 n s)) k ≡ none
+  number-missing e =
+      get-each same (λ (v : List ℕ). getD v 0 0) (table4 5 n s) k ∙ ap (read (λ (v : List ℕ). getD v 0 0)) (missing-none cell cell-lawful 5 n s k i ok e)
+
+  -- That number is the id, in the rows of the cells with an id.
+  pub id-found : Found i ≡ placeOf below (keys (table4 5 n s)) k → get same (idsIn n s) k ≡ some (getD s (5 * i + 4) 0)
+  unfolding idsIn
+  id-found e = number-found e
+
   pub id-missing : Missing i ≡ placeOf below (keys (table4 5 n s)) k → get same (idsIn n s) k ≡ none
   unfolding idsIn
-  id-missing e =
-      get-each same (λ (v : List ℕ). getD v 0 0) (table4 5 n s) k ∙ ap (read (λ (v : List ℕ). getD v 0 0)) (missing-none cell cell-lawful 5 n s k i ok e)
+  id-missing e = number-missing e
+
+  -- It is the mask, in the rows of the occupied cells.
+  pub mask-found : Found i ≡ placeOf below (keys (table4 5 n s)) k → get same (cellsIn n s) k ≡ some (getD s (5 * i + 4) 0)
+  unfolding cellsIn
+  mask-found e = number-found e
+
+  pub mask-missing : Missing i ≡ placeOf below (keys (table4 5 n s)) k → get same (cellsIn n s) k ≡ none
+  unfolding cellsIn
+  mask-missing e = number-missing e
 
 -- The group whose words stand from at on.
 abbrev pub groupAt : List ℕ → ℕ → Group

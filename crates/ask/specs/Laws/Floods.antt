@@ -12,9 +12,10 @@ use lib.Seq.{take-take, take-all, take-nil, take-length}
 use borrow.Author.Tests.{le-leb}
 use Rattle.component.specs.Laws.Tests.{le-or-lt}
 use Rattle.model.specs.Lists.{has, keys, gather}
-use Rattle.model.specs.Cells.{Cell, same}
+use Rattle.model.specs.Cells.{Cell, same, touch26}
+use Rattle.model.specs.Masks.{touching}
 use Rattle.model.specs.Flood.{Flood, Depth, within, cutAt, visit, wholeFlood, flood}
-use Rattle.model.specs.Laws.Members.{whilst-shorter}
+use Rattle.model.specs.Laws.Members.{each-length, whilst-shorter}
 use Rattle.map.specs.Rows.{rowCell}
 use Rattle.map.specs.Standing.{Cells, Floodable, Flooded, floodFrom}
 use Rattle.map.specs.Answers.{answerWords, filled, Queued, cellsOfRows}
@@ -50,23 +51,23 @@ cut-nothing none seed = refl
 cut-nothing (some d) seed = refl
 
 -- From an unoccupied seed there is no flood, and that is all of it.
-pub flood-none : (t : List (Cell × List Cell)) (c : Cell) (depth : Depth) (budget : ℕ) → has same (keys t) c ≡ false
-    → record { cells = []; number = 0; wasAll = true } ≡ flood (having t .occupancy) c depth budget
+pub flood-none : (t : List (Cell × ℕ)) (c : Cell) (depth : Depth) (budget : ℕ) → has same (keys t) c ≡ false
+    → record { cells = []; number = 0; wasAll = true } ≡ flood touch26 (having t .occupancy) c depth budget
 flood-none t c depth budget e =
-    let l : [] ≡ cutAt depth c (wholeFlood (having t .occupancy) c) =
-    sym (cut-nothing depth c) ∙ ap (λ (b : Bool). cutAt depth c (cond b (visit t (length t) (c ∷ []) (c ∷ [])) [])) (sym e) in
-    let k : [] ≡ take budget (cutAt depth c (wholeFlood (having t .occupancy) c)) = sym (take-nil budget) ∙ ap (take budget) l in
+    let l : [] ≡ cutAt depth c (wholeFlood touch26 (having t .occupancy) c) =
+    sym (cut-nothing depth c) ∙ ap (λ (b : Bool). cutAt depth c (cond b (visit (touching touch26 (keys t)) (length (keys t)) (c ∷ []) (c ∷ [])) [])) (sym e) in
+    let k : [] ≡ take budget (cutAt depth c (wholeFlood touch26 (having t .occupancy) c)) = sym (take-nil budget) ∙ ap (take budget) l in
     let z : 0 ≤ budget = omega arith in
     λ i. record { cells = k i; number = length (k i); wasAll = (sym (le-leb 0 budget z) ∙ ap (λ (m : List Cell). leb (length m) budget) l) i }
 
 -- The answer then.
-pub flooded-none : (t : List (Cell × List Cell)) (c : Cell) (depth : Depth) (budget : ℕ) (answer : List ℕ) → has same (keys t) c ≡ false
-    → (Flooding.NotFound (record { number = 0; «was_all» = true }), answer) ≡ flooded (has same (keys t) c) (flood (having t .occupancy) c depth budget) answer
+pub flooded-none : (t : List (Cell × ℕ)) (c : Cell) (depth : Depth) (budget : ℕ) (answer : List ℕ) → has same (keys t) c ≡ false
+    → (Flooding.NotFound (record { number = 0; «was_all» = true }), answer) ≡ flooded (has same (keys t) c) (flood touch26 (having t .occupancy) c depth budget) answer
 flooded-none t c depth budget answer e =
     fitted-none Flooding.TooLong (Flooding.NotFound (record { number = 0; «was_all» = true })) answer
     ∙ (λ i. flooded (sym e i) (flood-none t c depth budget e i) answer)
 
-module _ (words : List ℕ) (n : ℕ) (t : List (Cell × List Cell)) (k : Cells words n t) (seed : ℕ) (h : seed < n) where
+module _ (words : List ℕ) (n : ℕ) (t : List (Cell × ℕ)) (k : Cells words n t) (seed : ℕ) (h : seed < n) where
   -- A flood can begin with no row marked.
   pub floodable : (m : ℕ) → n ≤ m → Floodable words n seed 1 (replicate m 0) (replicate m 0)
   floodable m g =
@@ -90,14 +91,14 @@ module _ (words : List ℕ) (n : ℕ) (t : List (Cell × List Cell)) (k : Cells 
       c = rowCell words seed
 
       abbrev all : List Cell
-      all = wholeFlood (having t .occupancy) c
+      all = wholeFlood touch26 (having t .occupancy) c
 
       abbrev cut : List Cell
       cut = cutAt depth c all
 
       whole-is : cellsOfRows words queue′ r ≡ all
       whole-is =
-          d .order ∙ ap (λ (m : ℕ). floodFrom t m c) (k .number) ∙ sym (flood-whole (having t .occupancy) c (row-occupied words n t k seed h))
+          d .order ∙ ap (λ (m : ℕ). floodFrom t m c) (k .number ∙ sym (each-length (λ (p : Cell × ℕ). p .0) t)) ∙ sym (flood-whole (having t .occupancy) c (row-occupied words n t k seed h))
 
       left-is : left ≡ length cut
       left-is = el ∙ ap (λ (l : List Cell). length (cutAt depth c l)) whole-is
@@ -122,7 +123,7 @@ module _ (words : List ℕ) (n : ℕ) (t : List (Cell × List Cell)) (k : Cells 
       number-is = en ∙ ap (min budget) left-is ∙ sym (length-take budget cut)
 
       abbrev asked : Flood
-      asked = flood (having t .occupancy) c depth budget
+      asked = flood touch26 (having t .occupancy) c depth budget
 
       size : length (gather answerWords (take budget cut)) ≡ 4 * number
       size = words-long (take budget cut) ∙ ap (λ (m : ℕ). 4 * m) (sym number-is)

@@ -96,14 +96,14 @@ module _ (w : List ℕ) (c : CellId) (answer : List ℕ) (no : ℕ) (e : no ≡ 
 
   pub nearby-refused : (no ≡ 0 → ⊥) → (Listing.Refused no, answer) ≡ nearbyOf w c answer
   unfolding nearbyOf
-  nearby-refused h = refused-way no (cellRefusal w c) refuse-cell (listedCells (nearby (decode w) (stored c)) answer) e h
+  nearby-refused h = refused-way no (cellRefusal w c) refuse-cell (listedCells (nearby touch26 (decode w) (stored c)) answer) e h
 
   pub nearby-answered : no ≡ 0 → (n : ℕ) (rows : List ℕ) (d : Cell) (a : Listing × List ℕ) → n ≡ cellCount w → rows ≡ cellWords w → d ≡ stored c
-      → a ≡ listedCells (nearby (having (cellsIn n rows)) d) answer → a ≡ nearbyOf w c answer
+      → a ≡ listedCells (nearby touch26 (having (cellsIn n rows)) d) answer → a ≡ nearbyOf w c answer
   unfolding nearbyOf decode
   nearby-answered h n rows d a p q s f =
-      answered-way no (cellRefusal w c) refuse-cell (listedCells (nearby (decode w) (stored c)) answer) e h a
-      (f ∙ (λ i. listedCells (nearby (having (cellsIn (p i) (q i))) (s i)) answer))
+      answered-way no (cellRefusal w c) refuse-cell (listedCells (nearby touch26 (decode w) (stored c)) answer) e h a
+      (f ∙ (λ i. listedCells (nearby touch26 (having (cellsIn (p i) (q i))) (s i)) answer))
 
   pub cube-refused : (r : ℕ) → (no ≡ 0 → ⊥) → (Listing.Refused no, answer) ≡ cubeOf w c r answer
   unfolding cubeOf
@@ -124,12 +124,12 @@ module _ (w : List ℕ) (c : CellId) (answer : List ℕ) (no : ℕ) (e : no ≡ 
     unfolding floodOf
     flood-refused h =
         refused-way no (cellRefusal w c) refuse-flood
-        (flooded (has same (occupied (decode w .occupancy)) (stored c)) (flood (decode w .occupancy) (stored c) (depthOf depth) budget) answer) e h
+        (flooded (has same (occupied (decode w .occupancy)) (stored c)) (flood touch26 (decode w .occupancy) (stored c) (depthOf depth) budget) answer) e h
 
     pub flood-answered : no ≡ 0 → (n : ℕ) (rows : List ℕ) (d : Cell) (a : Flooding × List ℕ) → n ≡ cellCount w → rows ≡ cellWords w → d ≡ stored c
-        → a ≡ flooded (has same (keys (cellsIn n rows)) d) (flood (having (cellsIn n rows) .occupancy) d (depthOf depth) budget) answer → a ≡ floodOf w c depth budget answer
+        → a ≡ flooded (has same (keys (cellsIn n rows)) d) (flood touch26 (having (cellsIn n rows) .occupancy) d (depthOf depth) budget) answer → a ≡ floodOf w c depth budget answer
     unfolding floodOf decode
     flood-answered h n rows d a p q s f =
         answered-way no (cellRefusal w c) refuse-flood
-        (flooded (has same (occupied (decode w .occupancy)) (stored c)) (flood (decode w .occupancy) (stored c) (depthOf depth) budget) answer) e h a
-        (f ∙ (λ i. flooded (has same (keys (cellsIn (p i) (q i))) (s i)) (flood (having (cellsIn (p i) (q i)) .occupancy) (s i) (depthOf depth) budget) answer))
+        (flooded (has same (occupied (decode w .occupancy)) (stored c)) (flood touch26 (decode w .occupancy) (stored c) (depthOf depth) budget) answer) e h a
+        (f ∙ (λ i. flooded (has same (keys (cellsIn (p i) (q i))) (s i)) (flood touch26 (having (cellsIn (p i) (q i)) .occupancy) (s i) (depthOf depth) budget) answer))

@@ -8,14 +8,15 @@ use Rattle.component.specs.declared.CellId.{CellId}
 use Rattle.component.specs.Stored.{stored}
 use Rattle.model.specs.Lists.{get}
 use Rattle.model.specs.Cells.{Cell, same}
-use Rattle.model.specs.Questions.{whereIs, groupBy}
+use Rattle.model.specs.Questions.{whereIs, groupBy, onesOf, neighbourCount}
 use Rattle.model.specs.Questions as question
-use Rattle.layout.specs.Rows.{entitiesIn, idsIn, groupsIn}
-use Rattle.layout.specs.State.{decode, entityWords, idWords, groupWords, entityCount, idCount, groupCount}
+use Rattle.layout.specs.Rows.{entitiesIn, cellsIn, idsIn, groupsIn}
+use Rattle.layout.specs.State.{decode, entityWords, cellWords, idWords, groupWords, entityCount, cellCount, idCount, groupCount}
 use Rattle.ask.specs.declared.Where.{Where}
 use Rattle.ask.specs.declared.IdOf.{IdOf}
+use Rattle.ask.specs.declared.CountOf.{CountOf}
 use Rattle.ask.specs.declared.GroupOf.{GroupOf}
-use Rattle.ask.specs.Answers.{refusal, cellRefusal, whereFrom, whereOf, idFrom, idOf, groupFrom, groupOf, noCorners, cornersFrom, cornersOf}
+use Rattle.ask.specs.Answers.{refusal, cellRefusal, whereFrom, whereOf, idFrom, idOf, countFrom, countOf, groupFrom, groupOf, noCorners, cornersFrom, cornersOf}
 use Rattle.ask.specs.Laws.Ways.{refused-way, answered-way}
 
 module _ (w : List ℕ) (k no : ℕ) (e : no ≡ refusal w) where
@@ -55,3 +56,12 @@ module _ (w : List ℕ) (c : CellId) (no : ℕ) (e : no ≡ cellRefusal w c) whe
   unfolding idOf decode
   id-answered h n rows d r p q s f =
       answered-way no (cellRefusal w c) IdOf.Refused (idFrom (question.idOf (decode w) (stored c))) e h r (f ∙ (λ i. idFrom (get same (idsIn (p i) (q i)) (s i))))
+
+  pub count-refused : (no ≡ 0 → ⊥) → CountOf.Refused no ≡ countOf w c
+  unfolding countOf
+  count-refused h = refused-way no (cellRefusal w c) CountOf.Refused (countFrom (neighbourCount (decode w) (stored c))) e h
+
+  pub count-answered : no ≡ 0 → (n : ℕ) (rows : List ℕ) (d : Cell) (r : CountOf) → n ≡ cellCount w → rows ≡ cellWords w → d ≡ stored c → r ≡ countFrom (onesOf (get same (cellsIn n rows) d)) → r ≡ countOf w c
+  unfolding countOf decode
+  count-answered h n rows d r p q s f =
+      answered-way no (cellRefusal w c) CountOf.Refused (countFrom (neighbourCount (decode w) (stored c))) e h r (f ∙ (λ i. countFrom (onesOf (get same (cellsIn (p i) (q i)) (s i)))))

@@ -6,13 +6,13 @@ use mathlib.Core.Bool.{Bool, true, false, cond}
 use mathlib.Core.List.{List, [], _∷_, _++_, List·Memᴰ as Mem, Memᴰ·cast as mem-cast}
 use lib.ListN.{length, take, drop}
 use lib.Seq.{take-append-seam}
-use Rattle.model.specs.Lists.{has, keys, gather}
-use Rattle.model.specs.Cells.{Cell, same, below}
-use Rattle.model.specs.Flood.{listOf}
+use Rattle.model.specs.Lists.{each, has, keys, gather, count}
+use Rattle.model.specs.Cells.{Cell, same, below, touch26}
+use Rattle.model.specs.Masks.{bit, touching}
 use Rattle.model.specs.Questions.{nearby}
 use Rattle.model.specs.Laws.Tests.{true-of, false-of}
 use Rattle.model.specs.Laws.Orders.{cells}
-use Rattle.model.specs.Laws.Members.{has-of, hasnt-of}
+use Rattle.model.specs.Laws.Members.{keep-shorter, each-length, count-length, has-of, hasnt-of}
 use Rattle.model.specs.Laws.Sorted.{Asc}
 use Rattle.table.specs.declared.Place.{Place}
 use Rattle.table.specs.declared.Place.the-variants.{Found, Missing}
@@ -21,11 +21,10 @@ use Rattle.table.specs.Laws.Kinds.{cell-lawful}
 use Rattle.table.specs.Laws.Places.{found-within, missing-key}
 use Rattle.table.specs.Laws.Answers.{found-below, found-is}
 use Rattle.table.specs.Moves.{over}
-use Rattle.map.specs.Rows.{rowCell, rowFor}
+use Rattle.map.specs.Rows.{rowCell, rowMask, rowNear, setOf, rowList, rowFor}
 use Rattle.map.specs.Standing.{Cells}
 use Rattle.map.specs.Answers.{answerWords, filled, NearbyAsked, Nearby}
 use Rattle.map.specs.Laws.Lines.{getD-mem}
-use Rattle.map.specs.Laws.Listing.{list-length, numbers-few}
 use Rattle.map.specs.Laws.Filling.{words-long}
 use Rattle.map.specs.Laws.Reads.{cells-keys, row-for, row-list}
 use Rattle.ask.specs.Parts.{having}
@@ -37,12 +36,23 @@ filled-take s l =
     ap (λ (m : ℕ). take m (gather answerWords l ++ drop (0 + length (gather answerWords l)) s)) (sym (words-long l))
     ∙ take-append-seam (gather answerWords l) (drop (0 + length (gather answerWords l)) s)
 
-module _ (words : List ℕ) (n : ℕ) (t : List (Cell × List Cell)) (k : Cells words n t) where
-  module _ (c : Cell) (i : ℕ) (e : Found i ≡ placeOf below (keys (table4 30 n words)) c) where
+few-of : (l m : List Cell) → l ≡ m → length l ≤ 26 → length m ≤ 26
+few-of l m e h = subst (λ (x : List Cell). length x ≤ 26) e h
+
+-- The bits of a row lead to at most 26 cells.
+rows-few : (words : List ℕ) (i : ℕ) → length (rowList words i) ≤ 26
+unfolding rowList
+rows-few words i = few (setOf words i (count 0 26)) (keep-shorter (bit (rowMask words i)) (count 0 26))
+  where
+    few : (l : List ℕ) → length l ≤ length (count 0 26) → length (each (rowNear words i) l) ≤ 26
+    few l h = omega (arith, each-length (rowNear words i) l, count-length 0 26)
+
+module _ (words : List ℕ) (n : ℕ) (t : List (Cell × ℕ)) (k : Cells words n t) where
+  module _ (c : Cell) (i : ℕ) (e : Found i ≡ placeOf below (keys (table4 5 n words)) c) where
     found-in : Mem c (keys t)
     found-in =
         subst (λ (l : List Cell). Mem c l) (cells-keys words n t k)
-        (mem-cast (sym (found-is cell cell-lawful 30 n words c i c e)) (getD-mem (keys (table4 30 n words)) i c (found-within below c (keys (table4 30 n words)) i e)))
+        (mem-cast (sym (found-is cell cell-lawful 5 n words c i c e)) (getD-mem (keys (table4 5 n words)) i c (found-within below c (keys (table4 5 n words)) i e)))
 
     -- A cell that is found is occupied.
     pub found-has : has same (keys t) c ≡ true
@@ -50,20 +60,19 @@ module _ (words : List ℕ) (n : ℕ) (t : List (Cell × List Cell)) (k : Cells 
 
     -- Its row is there.
     pub found-there : i < n
-    found-there = found-below cell cell-lawful 30 n words c i e
+    found-there = found-below cell cell-lawful 5 n words c i e
 
     -- Its row has it.
     pub found-cell : rowCell words i ≡ c
     unfolding rowFor
     found-cell = ap (λ (p : Place). rowCell words (placed p)) e ∙ row-for words n t k c found-in .1
 
-    -- The list of its row is short.
-    list-few : length (listOf t (rowCell words i)) ≤ 26
+    -- It touches few.
+    list-few : length (touching touch26 (keys t) (rowCell words i)) ≤ 26
     list-few =
-        let h = found-there in
-        omega (arith, ap length (row-list words n t k i h), list-length words i, numbers-few words i (omega (arith, k .fits)))
+        few-of (rowList words i) (touching touch26 (keys t) (rowCell words i)) (row-list words n t k i found-there) (rows-few words i)
 
-    -- What is asked to write it and its list.
+    -- What is asked to write it and those.
     pub nearby-asked : (answer : List ℕ) → 108 ≤ length answer → NearbyAsked words n i answer
     nearby-asked answer h = record { table = t; cells = k; there = found-there; space = omega (arith, list-few) }
 
@@ -73,20 +82,20 @@ module _ (words : List ℕ) (n : ℕ) (t : List (Cell × List Cell)) (k : Cells 
       nearby-few = omega (arith, w .number, list-few)
 
       -- They are what the question asks for.
-      pub nearby-words : take (4 * r) answer′ ≡ gather answerWords (nearby (having t) c .list)
+      pub nearby-words : take (4 * r) answer′ ≡ gather answerWords (nearby touch26 (having t) c .list)
       nearby-words =
           (λ j. take (4 * w .number j) (w .written j))
-          ∙ filled-take answer (rowCell words i ∷ listOf t (rowCell words i))
-          ∙ ap (λ (d : Cell). gather answerWords (d ∷ listOf t d)) found-cell
-          ∙ ap (λ (b : Bool). gather answerWords (cond b (c ∷ listOf t c) [])) (sym found-has)
+          ∙ filled-take answer (rowCell words i ∷ touching touch26 (keys t) (rowCell words i))
+          ∙ ap (λ (d : Cell). gather answerWords (d ∷ touching touch26 (keys t) d)) found-cell
+          ∙ ap (λ (b : Bool). gather answerWords (cond b (c ∷ touching touch26 (keys t) c) [])) (sym found-has)
 
   -- A cell that is missing is not occupied.
-  pub missing-has : (c : Cell) (i : ℕ) → Missing i ≡ placeOf below (keys (table4 30 n words)) c → has same (keys t) c ≡ false
+  pub missing-has : (c : Cell) (i : ℕ) → Missing i ≡ placeOf below (keys (table4 5 n words)) c → has same (keys t) c ≡ false
   missing-has c i e =
       false-of (has same (keys t) c)
       (hasnt-of cells c (keys t) (λ m.
-      missing-key cells c (keys (table4 30 n words)) i (subst (Asc below) (sym (cells-keys words n t k)) (k .asc)) e (subst (λ (l : List Cell). Mem c l) (sym (cells-keys words n t k)) m)))
+      missing-key cells c (keys (table4 5 n words)) i (subst (Asc below) (sym (cells-keys words n t k)) (k .asc)) e (subst (λ (l : List Cell). Mem c l) (sym (cells-keys words n t k)) m)))
 
   -- Then its list is empty.
-  pub missing-words : (c : Cell) (i : ℕ) → Missing i ≡ placeOf below (keys (table4 30 n words)) c → [] ≡ gather answerWords (nearby (having t) c .list)
-  missing-words c i e = ap (λ (b : Bool). gather answerWords (cond b (c ∷ listOf t c) [])) (sym (missing-has c i e))
+  pub missing-words : (c : Cell) (i : ℕ) → Missing i ≡ placeOf below (keys (table4 5 n words)) c → [] ≡ gather answerWords (nearby touch26 (having t) c .list)
+  missing-words c i e = ap (λ (b : Bool). gather answerWords (cond b (c ∷ touching touch26 (keys t) c) [])) (sym (missing-has c i e))

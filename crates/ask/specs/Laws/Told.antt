@@ -15,8 +15,8 @@ use Rattle.layout.specs.Points.{longEnough, consistentWords}
 use Rattle.ask.specs.declared.Listing.{Listing}
 use Rattle.ask.specs.declared.Visited.{Visited}
 use Rattle.ask.specs.declared.Flooding.{Flooding}
-use Rattle.ask.specs.Numbers.{whereNumber, idNumber, groupNumber, listingNumber, floodingNumber, numberBy, Exactly}
-use Rattle.ask.specs.Answers.{refusal, cellRefusal, unless, whereFrom, idFrom, groupFrom, fitted}
+use Rattle.ask.specs.Numbers.{whereNumber, idNumber, countNumber, groupNumber, listingNumber, floodingNumber, numberBy, Exactly}
+use Rattle.ask.specs.Answers.{refusal, cellRefusal, unless, whereFrom, idFrom, countFrom, groupFrom, fitted}
 
 -- Two answers that equal a third are equal.
 pub one-answer : {A : Type 0} (r s a : A) → r ≡ a → s ≡ a → r ≡ s
@@ -38,6 +38,10 @@ where-done (some c) = refl
 pub id-done : (o : Option ℕ) → idNumber (idFrom o) ≡ 0
 id-done none = refl
 id-done (some g) = refl
+
+pub count-done : (o : Option ℕ) → countNumber (countFrom o) ≡ 0
+count-done none = refl
+count-done (some k) = refl
 
 pub group-done : (o : Option Group) → groupNumber (groupFrom o) ≡ 0
 group-done none = refl

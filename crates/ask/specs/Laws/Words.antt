@@ -15,7 +15,7 @@ use Rattle.model.specs.Groups.{Group, records}
 use Rattle.model.specs.Update.{mostEntities, mostCells}
 use Rattle.model.specs.Laws.Tests.{T-true, true-of}
 use Rattle.model.specs.Laws.Orders.{numbers}
-use Rattle.model.specs.Laws.Members.{each-each, key-in}
+use Rattle.model.specs.Laws.Members.{each-each}
 use Rattle.model.specs.Laws.Sorted.{Asc, isAscending-in, ascending-asc}
 use Rattle.model.specs.Laws.Records.{records-keys}
 use Rattle.model.specs.Laws.Occupied.{occupied-asc}
@@ -27,7 +27,7 @@ use Rattle.layout.specs.State.{entitiesLen, cellsLen, netLen, idsLen, groupsLen
 use Rattle.layout.specs.Points.{tidy, longEnough}
 use Rattle.layout.specs.Facts.{Orderly, Stands}
 use Rattle.layout.specs.Laws.Lengths.{header-end, entities-end, cells-end, occupied-end, emptied-end, ids-end, groups-end, entities-room, cells-room, net-room, ids-room, groups-room}
-use Rattle.layout.specs.Laws.Fitting.{consistent-fits, occupied-room}
+use Rattle.layout.specs.Laws.Fitting.{consistent-fits}
 use Rattle.layout.specs.Laws.Standing.{image-stands}
 use Rattle.layout.specs.Laws.Orderly.{orderly-out}
 use Rattle.layout.specs.Theorems.Canonical.{consistent-image}
@@ -159,26 +159,25 @@ module _ (w : List ℕ) (sure : Sure w) where
       (omega (arith, net-room (emptiedCount w) h, emptied-long w (sure .long)), h)
 
   pub cells-few : cellCount w ≤ mostCells
-  cells-few = tidy-few 30 mostCells (cellCount w) (cellWords w) (orderly .cell-rows)
+  cells-few = tidy-few 5 mostCells (cellCount w) (cellWords w) (orderly .cell-rows)
 
-  lists-are : decode w .occupancy .lists ≡ cellsIn (cellCount w) (cellWords w)
+  masks-are : decode w .occupancy .masks ≡ cellsIn (cellCount w) (cellWords w)
   unfolding decode
-  lists-are = refl
+  masks-are = refl
 
-  cells-of-state : Cells (cellWords w) (cellCount w) (decode w .occupancy .lists)
+  cells-of-state : Cells (cellWords w) (cellCount w) (decode w .occupancy .masks)
   cells-of-state =
       record {
-        image = stands .cell-words ∙ ap (λ (n : ℕ). cellsImage n (decode w .occupancy .lists)) (sym (cells-long w (sure .long)));
+        image = stands .cell-words ∙ ap (λ (n : ℕ). cellsImage n (decode w .occupancy .masks)) (sym (cells-long w (sure .long)));
         number = stands .cell-count;
         fits = omega (arith, cells-room (cellCount w) cells-few, cells-long w (sure .long));
         asc = occupied-asc touch26 (decode w .occupancy) (ok .sound);
         exact = ok .sound .exact;
-        room = λ c l d m j. occupied-room (decode w) ok c (key-in m);
       }
 
   -- The occupied cells stand in their words.
   pub cells-stand : Cells (cellWords w) (cellCount w) (cellsIn (cellCount w) (cellWords w))
-  cells-stand = subst (Cells (cellWords w) (cellCount w)) lists-are cells-of-state
+  cells-stand = subst (Cells (cellWords w) (cellCount w)) masks-are cells-of-state
 
 -- The occupied cells stand in words that are theirs.
 pub cells-here : (n : ℕ) (rows w : List ℕ) → Sure w → n ≡ cellCount w → rows ≡ cellWords w → Cells rows n (cellsIn n rows)

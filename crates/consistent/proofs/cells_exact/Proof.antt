@@ -71,8 +71,8 @@ returns-3 c = sym (point2-ids (c .before .before .before .before .before .before
 same-cells-requires : tie.Need-same-cells-requires
 same-cells-requires c κs =
     let w = c .before .before .before .before .before .before .before .before .before .before .before .before .args .state .now in (
-      table-facts cell 30 (getD w 1 0) (take 30720 (drop 20488 w)) (sym (c .before .before .before .is-table4 .ensures) ∙ not-false _ (c .before .before .if2 .left)) .fits,
-      table-facts cell 5 (getD w 1 0) (take 5120 (drop 59400 w)) (sym (c .before .is-table42 .ensures) ∙ not-false _ (c .if3 .left)) .fits,
+      table-facts cell 5 (getD w 1 0) (take 5120 (drop 20488 w)) (sym (c .before .before .before .is-table4 .ensures) ∙ not-false _ (c .before .before .if2 .left)) .fits,
+      table-facts cell 5 (getD w 1 0) (take 5120 (drop 33800 w)) (sym (c .before .is-table42 .ensures) ∙ not-false _ (c .if3 .left)) .fits,
     )
 
 returns-4 : tie.Need-returns-4

@@ -13,7 +13,7 @@ use Rattle.consistent.proofs.coordinates_in_range.Reads as coordinates-
 use Rattle.consistent.proofs.entities_within.Reads as entities-within-reads
 use Rattle.consistent.proofs.ids_below_next.Reads as ids-below-next-reads
 use Rattle.consistent.proofs.ids_shared.Reads as ids-shared-reads
-use Rattle.consistent.proofs.lists_exact.Reads as lists-exact-reads
+use Rattle.consistent.proofs.masks_exact.Reads as masks-exact-reads
 use Rattle.consistent.proofs.nets_in_order.Reads as nets-in-order-reads
 use Rattle.consistent.proofs.records_exact.Reads as records-exact-reads
 use Rattle.layout.proofs.state_len.Reads as state-len-reads
@@ -29,7 +29,7 @@ two : (c : tie.Else3) → point2 (c .before .before .before .before .before .bef
 two c = sym (c .before .cells-exact .ensures) ∙ not-false _ (c .if3 .left)
 
 three : (c : tie.Else4) → point3 (c .before .before .before .before .before .before .before .before .before .args .state .now) ≡ true
-three c = sym (c .before .lists-exact .ensures) ∙ not-false _ (c .if4 .left)
+three c = sym (c .before .masks-exact .ensures) ∙ not-false _ (c .if4 .left)
 
 four : (c : tie.Else5) → point4 (c .before .before .before .before .before .before .before .before .before .before .before .args .state .now) ≡ true
 four c = sym (c .before .ids-shared .ensures) ∙ not-false _ (c .if5 .left)
@@ -61,11 +61,11 @@ cells-exact-requires c κs = (long (c .before .before), one (c))
 returns-3 : tie.Need-returns-3
 returns-3 c = broken2 (c .before .before .before .before .before .before .before .args .state .now) (long (c .before .before .before .before)) (one (c .before .before)) (sym (c .before .cells-exact .ensures) ∙ not-true _ (c .if3 .taken))
 
-lists-exact-requires : tie.Need-lists-exact-requires
-lists-exact-requires c κs = (long (c .before .before .before .before), two (c))
+masks-exact-requires : tie.Need-masks-exact-requires
+masks-exact-requires c κs = (long (c .before .before .before .before), two (c))
 
 returns-4 : tie.Need-returns-4
-returns-4 c = broken3 (c .before .before .before .before .before .before .before .before .before .args .state .now) (long (c .before .before .before .before .before .before)) (one (c .before .before .before .before)) (two (c .before .before)) (sym (c .before .lists-exact .ensures) ∙ not-true _ (c .if4 .taken))
+returns-4 c = broken3 (c .before .before .before .before .before .before .before .before .before .args .state .now) (long (c .before .before .before .before .before .before)) (one (c .before .before .before .before)) (two (c .before .before)) (sym (c .before .masks-exact .ensures) ∙ not-true _ (c .if4 .taken))
 
 ids-shared-requires : tie.Need-ids-shared-requires
 ids-shared-requires c κs = (long (c .before .before .before .before .before .before), two (c .before .before), three (c))
@@ -107,7 +107,7 @@ consistent-spec =
     returns-2
     cells-exact-requires
     returns-3
-    lists-exact-requires
+    masks-exact-requires
     returns-4
     ids-shared-requires
     returns-5

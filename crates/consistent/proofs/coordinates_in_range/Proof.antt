@@ -92,8 +92,8 @@ returns-3 : tie.Need-returns-3
 returns-3 c =
     let s = c .before .before .before .before .before .before .before .before .before .before .before .before .before .before in
     let w = s .args .state .now in
-    let o = c .before .before .cells-in-range2 .ensures (netIn (getD w 2 0) (take 4096 (drop 51208 w))) (flush (getD w 2 0) (take 4096 (drop 51208 w))) in
-    let e = c .cells-in-range3 .ensures (netIn (getD w 3 0) (take 4096 (drop 55304 w))) (flush (getD w 3 0) (take 4096 (drop 55304 w))) in
+    let o = c .before .before .cells-in-range2 .ensures (netIn (getD w 2 0) (take 4096 (drop 25608 w))) (flush (getD w 2 0) (take 4096 (drop 25608 w))) in
+    let e = c .cells-in-range3 .ensures (netIn (getD w 3 0) (take 4096 (drop 29704 w))) (flush (getD w 3 0) (take 4096 (drop 29704 w))) in
     let n = c .before .before .before .before .cells-in-range .ensures (values (entitiesIn (getD w 0 0) (take 20480 (drop 8 w)))) (entity-lines (getD w 0 0) (take 20480 (drop 8 w))) in
     (λ i. n i && (o i && e i)) ∙ point7-is w
 

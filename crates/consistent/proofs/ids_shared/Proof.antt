@@ -1,4 +1,4 @@
-use Rattle.consistent.specs.Laws.Lists.{asks-parts, point4-is}
+use Rattle.consistent.specs.Laws.Masks.{asks-parts, point4-is}
 use Rattle.consistent.specs.Laws.Wholes.{long-words}
 use Prim.Native.Nat.{_-_}
 use native.Mathlib.Omega.{arith}
@@ -7,7 +7,7 @@ use Rattle.consistent.proofs.ids_shared.Statement.{statement}
 use Rattle.consistent.proofs.ids_shared.Tie as tie
 use Rattle.consistent.proofs.ids_shared.Reads as reads
 use Rattle.consistent.proofs.ids_shared.Lts as lts
-use Rattle.lists_check.proofs.parts_right.Reads as parts-right-reads
+use Rattle.parts_check.proofs.parts_right.Reads as parts-right-reads
 
 sub-cells : tie.Need-sub-cells
 sub-cells c = search needs

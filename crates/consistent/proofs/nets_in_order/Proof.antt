@@ -67,13 +67,13 @@ all-held-requires : tie.Need-all-held-requires
 all-held-requires c κs =
     let s = c .before .before .before .before .before .before .before .before .before .before .before in
     let w = s .args .state .now in
-    (tabled w (s .pre .0) (s .pre .1) .cells-table, table-facts cell 4 (getD w 2 0) (take 4096 (drop 51208 w)) (sym (c .before .before .before .is-table4 .ensures) ∙ not-false _ (c .before .before .if1 .left)) .fits)
+    (tabled w (s .pre .0) (s .pre .1) .cells-table, table-facts cell 4 (getD w 2 0) (take 4096 (drop 25608 w)) (sym (c .before .before .before .is-table4 .ensures) ∙ not-false _ (c .before .before .if1 .left)) .fits)
 
 all-held-requires-2 : tie.Need-all-held-requires-2
 all-held-requires-2 c κs =
     let s = c .before .before .before .before .before .before .before .before .before .before .before .before in
     let w = s .args .state .now in
-    (tabled w (s .pre .0) (s .pre .1) .cells-table, table-facts cell 4 (getD w 3 0) (take 4096 (drop 55304 w)) (sym (c .before .before .is-table42 .ensures) ∙ not-false _ (c .before .if2 .left)) .fits)
+    (tabled w (s .pre .0) (s .pre .1) .cells-table, table-facts cell 4 (getD w 3 0) (take 4096 (drop 29704 w)) (sym (c .before .before .is-table42 .ensures) ∙ not-false _ (c .before .if2 .left)) .fits)
 
 returns-3 : tie.Need-returns-3
 returns-3 c =

@@ -47,7 +47,7 @@ returns : tie.Need-returns
 returns c =
     let s = c .before .before .before .before .before .before .before .before .before in
     let w = s .args .state .now in
-    sym (point5-uncounted w (s .pre .0) (s .pre .1) (c .before .before .before .build-records .ensures (idsIn (getD w 4 0) (take 5120 (drop 59400 w))) (held-ids w (s .pre .0) (s .pre .1))) (c .if1 .taken))
+    sym (point5-uncounted w (s .pre .0) (s .pre .1) (c .before .before .before .build-records .ensures (idsIn (getD w 4 0) (take 5120 (drop 33800 w))) (held-ids w (s .pre .0) (s .pre .1))) (c .if1 .taken))
 
 slice-aggregate-same-words : tie.Need-slice-aggregate-same-words
 slice-aggregate-same-words c = search needs
@@ -59,7 +59,7 @@ returns-2 : tie.Need-returns-2
 returns-2 c =
     let s = c .before .before .before .before .before .before .before .before .before .before .before in
     let w = s .args .state .now in
-    c .same-words .ensures ∙ point5-words w (s .pre .0) (s .pre .1) (c .before .before .before .before .before .build-records .ensures (idsIn (getD w 4 0) (take 5120 (drop 59400 w))) (held-ids w (s .pre .0) (s .pre .1))) (c .before .before .if1 .left) (c .before .before .before .before .before .build-records .kept .1 .1 .0)
+    c .same-words .ensures ∙ point5-words w (s .pre .0) (s .pre .1) (c .before .before .before .before .before .build-records .ensures (idsIn (getD w 4 0) (take 5120 (drop 33800 w))) (held-ids w (s .pre .0) (s .pre .1))) (c .before .before .if1 .left) (c .before .before .before .before .before .build-records .kept .1 .1 .0)
 
 pub records-exact-spec : {M : Type 1} → statement M
 records-exact-spec =

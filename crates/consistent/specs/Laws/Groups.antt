@@ -78,38 +78,38 @@ module _ (t : Ids) (few : length t ≤ 1024) (built : List ℕ) (k : ℕ) (held 
 
 module _ (w : List ℕ) (long : longEnough w ≡ true) (two : point2 w ≡ true) where
   abbrev ids : Ids
-  ids = idsIn (getD w 4 0) (take 5120 (drop 59400 w))
+  ids = idsIn (getD w 4 0) (take 5120 (drop 33800 w))
 
   -- The words of the ids hold them.
-  pub held-ids : HeldTable (take 5120 (drop 59400 w)) (getD w 4 0) ids
+  pub held-ids : HeldTable (take 5120 (drop 33800 w)) (getD w 4 0) ids
   held-ids =
       let t = tabled w long two in
-      let f = table-facts cell 5 (getD w 4 0) (take 5120 (drop 59400 w)) (t .ids-table) in
+      let f = table-facts cell 5 (getD w 4 0) (take 5120 (drop 33800 w)) (t .ids-table) in
       record {
-        image = sym (ids-laws .written (getD w 4 0) (take 5120 (drop 59400 w)) (f .fits) (table-zeros 5 (getD w 4 0) (take 5120 (drop 59400 w)) (t .ids-table)) tt);
-        count = sym (ids-laws .counted (getD w 4 0) (take 5120 (drop 59400 w)));
-        asc = subst (λ (l : List Cell). Asc below l) (sym (ids-keys (getD w 4 0) (take 5120 (drop 59400 w)))) (f .asc);
+        image = sym (ids-laws .written (getD w 4 0) (take 5120 (drop 33800 w)) (f .fits) (table-zeros 5 (getD w 4 0) (take 5120 (drop 33800 w)) (t .ids-table)) tt);
+        count = sym (ids-laws .counted (getD w 4 0) (take 5120 (drop 33800 w)));
+        asc = subst (λ (l : List Cell). Asc below l) (sym (ids-keys (getD w 4 0) (take 5120 (drop 33800 w)))) (f .asc);
         fits = f .fits;
       }
 
   few-rows : length ids ≤ 1024
-  few-rows = let t = tabled w long two in let f = t .few-ids in omega (arith, ids-laws .counted (getD w 4 0) (take 5120 (drop 59400 w)))
+  few-rows = let t = tabled w long two in let f = t .few-ids in omega (arith, ids-laws .counted (getD w 4 0) (take 5120 (drop 33800 w)))
 
-  point5-is : (tidy 9 mostCells (getD w 5 0) (take 9216 (drop 64520 w)) && equal sameRecord (groupsIn (getD w 5 0) (take 9216 (drop 64520 w))) (records ids)) ≡ point5 w
+  point5-is : (tidy 9 mostCells (getD w 5 0) (take 9216 (drop 38920 w)) && equal sameRecord (groupsIn (getD w 5 0) (take 9216 (drop 38920 w))) (records ids)) ≡ point5 w
   unfolding point5 decode
   point5-is =
       λ i. tidy 9 mostCells (getD w 5 0) (groups-part w i) && equal sameRecord (groupsIn (getD w 5 0) (groups-part w i)) (records (idsIn (getD w 4 0) (ids-part w i)))
 
   -- The ways out.
   pub point5-uncounted : {built : List ℕ} {k : ℕ} → HeldGroups built k (records ids) → (k ≡ getD w 5 0 → ⊥) → point5 w ≡ false
-  point5-uncounted {built} {k} held n = sym point5-is ∙ exact-no ids few-rows built k held (getD w 5 0) (take 9216 (drop 64520 w)) (groups-length w long) n
+  point5-uncounted {built} {k} held n = sym point5-is ∙ exact-no ids few-rows built k held (getD w 5 0) (take 9216 (drop 38920 w)) (groups-length w long) n
 
-  pub point5-words : {built : List ℕ} {k : ℕ} → HeldGroups built k (records ids) → k ≡ getD w 5 0 → length built ≡ 9216 → equal eqb built (take 9216 (drop 64520 w)) ≡ point5 w
-  point5-words {built} {k} held c l = exact-is ids few-rows built k held (getD w 5 0) (take 9216 (drop 64520 w)) (groups-length w long) c l ∙ point5-is
+  pub point5-words : {built : List ℕ} {k : ℕ} → HeldGroups built k (records ids) → k ≡ getD w 5 0 → length built ≡ 9216 → equal eqb built (take 9216 (drop 38920 w)) ≡ point5 w
+  point5-words {built} {k} held c l = exact-is ids few-rows built k held (getD w 5 0) (take 9216 (drop 38920 w)) (groups-length w long) c l ∙ point5-is
 
   -- What building the records asks of words that are all zero.
   pub asks-records : (len : ℕ) → 9216 ≤ len
-      → (t : Ids) × HeldTable (take 5120 (drop 59400 w)) (getD w 4 0) t × (replicate {A = ℕ} len 0 ≡ replicate (length (replicate {A = ℕ} len 0)) 0) × (9 * getD w 4 0 ≤ length (replicate {A = ℕ} len 0))
+      → (t : Ids) × HeldTable (take 5120 (drop 33800 w)) (getD w 4 0) t × (replicate {A = ℕ} len 0 ≡ replicate (length (replicate {A = ℕ} len 0)) 0) × (9 * getD w 4 0 ≤ length (replicate {A = ℕ} len 0))
   asks-records len h =
       let t = tabled w long two in
       let f = t .few-ids in

@@ -31,7 +31,7 @@ use Rattle.consistent.specs.Laws.Conjunctions.{and-in, and-false, within
 
 -- How many occupied cells there are.
 cells-counted : (n : ℕ) (s : List ℕ) → length (keys (cellsIn n s)) ≡ n
-cells-counted n s = ap length (cells-keys n s) ∙ keys-length cell 30 n s
+cells-counted n s = ap length (cells-keys n s) ∙ keys-length cell 5 n s
 
 -- Point 1 over any words of entities.
 within-is : (a : Bool) (n m : ℕ) (s t : List ℕ) → length s ≡ 20480
@@ -67,8 +67,8 @@ entities-fit w long e = let f = point1-few w e in let l = entities-length w long
 pub record Tabled (w : List ℕ) : Type 0 where
   pub few-cells : getD w 1 0 ≤ 1024
   pub few-ids : getD w 4 0 ≤ 1024
-  pub cells-table : isTable4 30 (getD w 1 0) (take 30720 (drop 20488 w)) ≡ true
-  pub ids-table : isTable4 5 (getD w 4 0) (take 5120 (drop 59400 w)) ≡ true
+  pub cells-table : isTable4 5 (getD w 1 0) (take 5120 (drop 20488 w)) ≡ true
+  pub ids-table : isTable4 5 (getD w 4 0) (take 5120 (drop 33800 w)) ≡ true
 
 -- A tidy table whose keys are an ascending list.
 tidy-table : (v n : ℕ) (s : List ℕ) (l : List Cell) → 4 ≤ v → v * n ≤ length s → areZero (drop (v * n) s) ≡ true → keys (table4 v n s) ≡ l → Asc below l → isTable4 v n s ≡ true
@@ -82,7 +82,7 @@ tidy-table v n s l h k z e a =
 pub tabled : (w : List ℕ) → longEnough w ≡ true → point2 w ≡ true → Tabled w
 unfolding point2 decode
 tabled w long e =
-    let a = both (tidy 30 mostCells (getD w 1 0) (cellWords w)) _ e in
+    let a = both (tidy 5 mostCells (getD w 1 0) (cellWords w)) _ e in
     let b = both (tidy 5 mostCells (getD w 4 0) (idWords w)) _ (a .1) in
     let st : List Cell = standing (decode w) in
     let c = both (equal same (keys (idsIn (getD w 4 0) (idWords w))) st) (equal same (keys (cellsIn (getD w 1 0) (cellWords w))) st) (b .1) in
@@ -97,25 +97,25 @@ tabled w long e =
       few-cells = m;
       few-ids = k;
       cells-table =
-          tidy-table 30 (getD w 1 0) (take 30720 (drop 20488 w)) st (omega arith) (omega arith)
-          (ap (λ s. areZero (drop (30 * getD w 1 0) s)) (cells-part w) ∙ p .1)
-          (ap (λ s. keys (table4 30 (getD w 1 0) s)) (cells-part w) ∙ sym (cells-keys (getD w 1 0) (cellWords w)) ∙ equal-out same (cells .same-eq) _ _ (T-true (c .1)))
+          tidy-table 5 (getD w 1 0) (take 5120 (drop 20488 w)) st (omega arith) (omega arith)
+          (ap (λ s. areZero (drop (5 * getD w 1 0) s)) (cells-part w) ∙ p .1)
+          (ap (λ s. keys (table4 5 (getD w 1 0) s)) (cells-part w) ∙ sym (cells-keys (getD w 1 0) (cellWords w)) ∙ equal-out same (cells .same-eq) _ _ (T-true (c .1)))
           asc;
       ids-table =
-          tidy-table 5 (getD w 4 0) (take 5120 (drop 59400 w)) st (omega arith) (omega arith)
+          tidy-table 5 (getD w 4 0) (take 5120 (drop 33800 w)) st (omega arith) (omega arith)
           (ap (λ s. areZero (drop (5 * getD w 4 0) s)) (ids-part w) ∙ q .1)
           (ap (λ s. keys (table4 5 (getD w 4 0) s)) (ids-part w) ∙ sym (ids-keys (getD w 4 0) (idWords w)) ∙ equal-out same (cells .same-eq) _ _ (T-true (c .0)))
           asc;
     }
 
 -- What point 6 is computed by.
-pub point6-is : (w : List ℕ) → all (λ g. ltb g (getD w 6 0)) (values (idsIn (getD w 4 0) (take 5120 (drop 59400 w)))) ≡ point6 w
+pub point6-is : (w : List ℕ) → all (λ g. ltb g (getD w 6 0)) (values (idsIn (getD w 4 0) (take 5120 (drop 33800 w)))) ≡ point6 w
 unfolding point6 decode
 point6-is w = ap (λ s. all (λ g. ltb g (getD w 6 0)) (values (idsIn (getD w 4 0) s))) (ids-part w)
 
 -- What point 7 is computed by.
 pub point7-is : (w : List ℕ)
-    → (all cellInRange (values (entitiesIn (getD w 0 0) (take 20480 (drop 8 w)))) && (all cellInRange (netIn (getD w 2 0) (take 4096 (drop 51208 w))) && all cellInRange (netIn (getD w 3 0) (take 4096 (drop 55304 w))))) ≡ point7 w
+    → (all cellInRange (values (entitiesIn (getD w 0 0) (take 20480 (drop 8 w)))) && (all cellInRange (netIn (getD w 2 0) (take 4096 (drop 25608 w))) && all cellInRange (netIn (getD w 3 0) (take 4096 (drop 29704 w))))) ≡ point7 w
 unfolding point7 decode
 point7-is w =
     λ i. all cellInRange (values (entitiesIn (getD w 0 0) (entities-part w i))) && (all cellInRange (netIn (getD w 2 0) (occupied-part w i)) && all cellInRange (netIn (getD w 3 0) (emptied-part w i)))
@@ -145,16 +145,16 @@ pub point7-over : (w : List ℕ) → longEnough w ≡ true → 1024 < getD w 2 0
 point7-over w long h =
     let e = occupied-length w long in
     sym (point7-is w)
-    ∙ ap (λ b. all cellInRange (values (entitiesIn (getD w 0 0) (take 20480 (drop 8 w)))) && (b && all cellInRange (netIn (getD w 3 0) (take 4096 (drop 55304 w))))) (net-over (getD w 2 0) (take 4096 (drop 51208 w)) (omega arith) (omega arith))
+    ∙ ap (λ b. all cellInRange (values (entitiesIn (getD w 0 0) (take 20480 (drop 8 w)))) && (b && all cellInRange (netIn (getD w 3 0) (take 4096 (drop 29704 w))))) (net-over (getD w 2 0) (take 4096 (drop 25608 w)) (omega arith) (omega arith))
     ∙ and-false (all cellInRange (values (entitiesIn (getD w 0 0) (take 20480 (drop 8 w)))))
 
 pub point7-over-2 : (w : List ℕ) → longEnough w ≡ true → 1024 < getD w 3 0 → point7 w ≡ false
 point7-over-2 w long h =
     let e = emptied-length w long in
     let a : Bool = all cellInRange (values (entitiesIn (getD w 0 0) (take 20480 (drop 8 w)))) in
-    let b : Bool = all cellInRange (netIn (getD w 2 0) (take 4096 (drop 51208 w))) in
+    let b : Bool = all cellInRange (netIn (getD w 2 0) (take 4096 (drop 25608 w))) in
     sym (point7-is w)
-    ∙ ap (λ c. a && (b && c)) (net-over (getD w 3 0) (take 4096 (drop 55304 w)) (omega arith) (omega arith))
+    ∙ ap (λ c. a && (b && c)) (net-over (getD w 3 0) (take 4096 (drop 29704 w)) (omega arith) (omega arith))
     ∙ ap (λ c. a && c) (and-false b)
     ∙ and-false a
 
@@ -172,14 +172,14 @@ nets-are k l o e i ho he =
 
 -- What point 8 is computed by.
 pub point8-is : (w : List ℕ) → longEnough w ≡ true
-    → (isTable4 4 (getD w 2 0) (take 4096 (drop 51208 w)) && (isTable4 4 (getD w 3 0) (take 4096 (drop 55304 w))
-    && (all (has same (keys (table4 30 (getD w 1 0) (take 30720 (drop 20488 w))))) (netIn (getD w 2 0) (take 4096 (drop 51208 w)))
-    && all (λ c. not (has same (keys (table4 30 (getD w 1 0) (take 30720 (drop 20488 w)))) c)) (netIn (getD w 3 0) (take 4096 (drop 55304 w)))))) ≡ point8 w
+    → (isTable4 4 (getD w 2 0) (take 4096 (drop 25608 w)) && (isTable4 4 (getD w 3 0) (take 4096 (drop 29704 w))
+    && (all (has same (keys (table4 5 (getD w 1 0) (take 5120 (drop 20488 w))))) (netIn (getD w 2 0) (take 4096 (drop 25608 w)))
+    && all (λ c. not (has same (keys (table4 5 (getD w 1 0) (take 5120 (drop 20488 w)))) c)) (netIn (getD w 3 0) (take 4096 (drop 29704 w)))))) ≡ point8 w
 unfolding point8 decode
 point8-is w long =
-    let k : keys (table4 30 (getD w 1 0) (take 30720 (drop 20488 w))) ≡ keys (cellsIn (getD w 1 0) (cellWords w)) =
-    ap (λ s. keys (table4 30 (getD w 1 0) s)) (cells-part w) ∙ sym (cells-keys (getD w 1 0) (cellWords w)) in
-    nets-are (getD w 2 0) (getD w 3 0) (take 4096 (drop 51208 w)) (take 4096 (drop 55304 w)) _ (occupied-length w long) (emptied-length w long)
+    let k : keys (table4 5 (getD w 1 0) (take 5120 (drop 20488 w))) ≡ keys (cellsIn (getD w 1 0) (cellWords w)) =
+    ap (λ s. keys (table4 5 (getD w 1 0) s)) (cells-part w) ∙ sym (cells-keys (getD w 1 0) (cellWords w)) in
+    nets-are (getD w 2 0) (getD w 3 0) (take 4096 (drop 25608 w)) (take 4096 (drop 29704 w)) _ (occupied-length w long) (emptied-length w long)
     ∙ (λ i. tidy 4 mostCells (getD w 2 0) (occupied-part w i) && (tidy 4 mostCells (getD w 3 0) (emptied-part w i)
     && (isAscending below (netIn (getD w 2 0) (occupied-part w i)) && (isAscending below (netIn (getD w 3 0) (emptied-part w i))
     && (leb (length (netIn (getD w 2 0) (occupied-part w i))) mostCells && (leb (length (netIn (getD w 3 0) (emptied-part w i))) mostCells
@@ -188,16 +188,16 @@ point8-is w long =
 -- The ways out of point 8.
 module _ (w : List ℕ) (long : longEnough w ≡ true) where
   abbrev occupied-ok : Bool
-  occupied-ok = isTable4 4 (getD w 2 0) (take 4096 (drop 51208 w))
+  occupied-ok = isTable4 4 (getD w 2 0) (take 4096 (drop 25608 w))
 
   abbrev emptied-ok : Bool
-  emptied-ok = isTable4 4 (getD w 3 0) (take 4096 (drop 55304 w))
+  emptied-ok = isTable4 4 (getD w 3 0) (take 4096 (drop 29704 w))
 
   abbrev first-held : Bool
-  first-held = all (has same (keys (table4 30 (getD w 1 0) (take 30720 (drop 20488 w))))) (netIn (getD w 2 0) (take 4096 (drop 51208 w)))
+  first-held = all (has same (keys (table4 5 (getD w 1 0) (take 5120 (drop 20488 w))))) (netIn (getD w 2 0) (take 4096 (drop 25608 w)))
 
   abbrev second-free : Bool
-  second-free = all (λ c. not (has same (keys (table4 30 (getD w 1 0) (take 30720 (drop 20488 w)))) c)) (netIn (getD w 3 0) (take 4096 (drop 55304 w)))
+  second-free = all (λ c. not (has same (keys (table4 5 (getD w 1 0) (take 5120 (drop 20488 w)))) c)) (netIn (getD w 3 0) (take 4096 (drop 29704 w)))
 
   pub point8-no : occupied-ok ≡ false → point8 w ≡ false
   point8-no e = sym (point8-is w long) ∙ ap (λ b. b && (emptied-ok && (first-held && second-free))) e

@@ -11,10 +11,10 @@ use borrow.Author.Tests.{leb-true}
 use Rattle.layout.specs.State.{entitiesFrom, cellsFrom, occupiedFrom, emptiedFrom, idsFrom, groupsFrom, stateLen, entityWords, cellWords, occupiedWords, emptiedWords, idWords, groupWords}
 use Rattle.layout.specs.Points.{longEnough}
 
--- A state has 73,736 words.
-pub long-words : (w : List ℕ) → longEnough w ≡ true → 73736 ≤ length w
+-- A state has 48,136 words.
+pub long-words : (w : List ℕ) → longEnough w ≡ true → 48136 ≤ length w
 unfolding stateLen
-long-words w e = leb-true 73736 (length w) e
+long-words w e = leb-true 48136 (length w) e
 
 take-drop : (a m : ℕ) (s : List ℕ) → take m (drop a s) ≡ drop a (take (a + m) s)
 take-drop zero m s = ap (λ (k : ℕ). take k s) (sym (zero-add m))
@@ -34,41 +34,41 @@ module _ (w : List ℕ) where
   unfolding entitiesFrom cellsFrom
   entities-part = part-of w 8 20480 20488 refl
 
-  pub cells-part : take 30720 (drop 20488 w) ≡ cellWords w
+  pub cells-part : take 5120 (drop 20488 w) ≡ cellWords w
   unfolding cellsFrom occupiedFrom
-  cells-part = part-of w 20488 30720 51208 refl
+  cells-part = part-of w 20488 5120 25608 refl
 
-  pub occupied-part : take 4096 (drop 51208 w) ≡ occupiedWords w
+  pub occupied-part : take 4096 (drop 25608 w) ≡ occupiedWords w
   unfolding occupiedFrom emptiedFrom
-  occupied-part = part-of w 51208 4096 55304 refl
+  occupied-part = part-of w 25608 4096 29704 refl
 
-  pub emptied-part : take 4096 (drop 55304 w) ≡ emptiedWords w
+  pub emptied-part : take 4096 (drop 29704 w) ≡ emptiedWords w
   unfolding emptiedFrom idsFrom
-  emptied-part = part-of w 55304 4096 59400 refl
+  emptied-part = part-of w 29704 4096 33800 refl
 
-  pub ids-part : take 5120 (drop 59400 w) ≡ idWords w
+  pub ids-part : take 5120 (drop 33800 w) ≡ idWords w
   unfolding idsFrom groupsFrom
-  ids-part = part-of w 59400 5120 64520 refl
+  ids-part = part-of w 33800 5120 38920 refl
 
-  pub groups-part : take 9216 (drop 64520 w) ≡ groupWords w
+  pub groups-part : take 9216 (drop 38920 w) ≡ groupWords w
   unfolding groupsFrom stateLen
-  groups-part = part-of w 64520 9216 73736 refl
+  groups-part = part-of w 38920 9216 48136 refl
 
 module _ (w : List ℕ) (long : longEnough w ≡ true) where
   pub entities-length : length (take 20480 (drop 8 w)) ≡ 20480
   entities-length = part-long w 8 20480 (omega (arith, long-words w long))
 
-  pub cells-length : length (take 30720 (drop 20488 w)) ≡ 30720
-  cells-length = part-long w 20488 30720 (omega (arith, long-words w long))
+  pub cells-length : length (take 5120 (drop 20488 w)) ≡ 5120
+  cells-length = part-long w 20488 5120 (omega (arith, long-words w long))
 
-  pub occupied-length : length (take 4096 (drop 51208 w)) ≡ 4096
-  occupied-length = part-long w 51208 4096 (omega (arith, long-words w long))
+  pub occupied-length : length (take 4096 (drop 25608 w)) ≡ 4096
+  occupied-length = part-long w 25608 4096 (omega (arith, long-words w long))
 
-  pub emptied-length : length (take 4096 (drop 55304 w)) ≡ 4096
-  emptied-length = part-long w 55304 4096 (omega (arith, long-words w long))
+  pub emptied-length : length (take 4096 (drop 29704 w)) ≡ 4096
+  emptied-length = part-long w 29704 4096 (omega (arith, long-words w long))
 
-  pub ids-length : length (take 5120 (drop 59400 w)) ≡ 5120
-  ids-length = part-long w 59400 5120 (omega (arith, long-words w long))
+  pub ids-length : length (take 5120 (drop 33800 w)) ≡ 5120
+  ids-length = part-long w 33800 5120 (omega (arith, long-words w long))
 
-  pub groups-length : length (take 9216 (drop 64520 w)) ≡ 9216
-  groups-length = part-long w 64520 9216 (omega (arith, long-words w long))
+  pub groups-length : length (take 9216 (drop 38920 w)) ≡ 9216
+  groups-length = part-long w 38920 9216 (omega (arith, long-words w long))

@@ -26,7 +26,7 @@ use Rattle.model.specs.Laws.Tables.{keys-length}
 use Rattle.model.specs.Laws.Records.{records-keys}
 use Rattle.model.specs.Laws.Touching.{touching-26, touch26-touches}
 use Rattle.model.specs.Laws.Consistency.{Ok, ok-out}
-use Rattle.layout.specs.Facts.{Listed, Fits}
+use Rattle.layout.specs.Facts.{Fits}
 
 -- There are no more group records than cells with an id.
 records-few : (ids : Ids) → length (records ids) ≤ length ids
@@ -42,26 +42,10 @@ module _ (s : State) (ok : Ok touch26 s) where
       let k : Mem c (ascending below (values (s .occupancy .entities))) = subst (λ l. Mem c l) (ok .sound .cells) m in
       range-room 1 c (omega arith) (true-of (cellInRange c) (ok .range-entities c (ascending-out cells (values (s .occupancy .entities)) k)))
 
-  list-listed : (p : Cell × List Cell) → Mem p (s .occupancy .lists) → Listed p
-  list-listed p m =
-      let exact = ok .sound .exact (p .0) (p .1) m in
-      let room : hasRoom 1 (p .0) ≡ true = occupied-room (p .0) (key-in m) in
-      let touching : (d : Cell) → Mem d (p .1) → touches (p .0) d ≡ true =
-      λ d k. sym (touch26-touches (p .0) d) ∙ true-of (touch26 (p .0) d) (exact .only k .1) in
-      record {
-        room = room;
-        touching = touching;
-        few = omega (
-          arith,
-          around-one (p .0),
-          once-shorter (exact .once) (around 1 (p .0)) (λ d k. touching-in-list (p .0) d (room-above 1 (p .0) room) (touching d k)),
-        );
-      }
-
   ok-fits : Fits s
   ok-fits =
-      let few : length (s .occupancy .lists) ≤ mostCells = omega (arith, keys-length (s .occupancy .lists), ok .few-cells) in
-      let ids : length (s .groups .ids) ≤ mostCells = omega (arith, keys-length (s .groups .ids), keys-length (s .occupancy .lists), ap length (ok .id-cells)) in
+      let few : length (s .occupancy .masks) ≤ mostCells = omega (arith, keys-length (s .occupancy .masks), ok .few-cells) in
+      let ids : length (s .groups .ids) ≤ mostCells = omega (arith, keys-length (s .groups .ids), keys-length (s .occupancy .masks), ap length (ok .id-cells)) in
       record {
         entities = ok .few-entities;
         cells = few;
@@ -69,7 +53,6 @@ module _ (s : State) (ok : Ok touch26 s) where
         newly-emptied = ok .few-emptied;
         ids = ids;
         groups = omega (arith, records-few (s .groups .ids), ap length (ok .records-are));
-        lists = list-listed;
       }
 
 -- A consistent state fits.

@@ -2,27 +2,24 @@
 use Prim.Native.Nat.{ℕ, zero, suc, _+_, _-_, _*_, _≤_}
 use native.Mathlib.Nat.{mul-suc}
 use native.Mathlib.Omega.{arith}
-use mathlib.Core.Path.{_≡_, refl, sym, ap, _∙_, subst}
+use mathlib.Core.Path.{_≡_, refl, sym, ap, _∙_}
 use mathlib.Core.Bool.{true}
 use mathlib.Core.Logic.{⊎-elim}
 use mathlib.Core.List.{List, [], _++_, List·Memᴰ as Mem, List·Memᴰ·cases-cons as mem-cons, List·Memᴰ·not-nil as mem-nil}
-use lib.Dec.{T}
 use lib.ListN.{length, take, drop, replicate, length-drop}
 use lib.Seq.{length-take-le, drop-at}
-use Rattle.model.specs.Lists.{all, each, gather, values}
+use Rattle.model.specs.Lists.{each, gather}
 use Rattle.model.specs.Cells.{Cell}
-use Rattle.model.specs.Laws.Tests.{T-true, true-of}
-use Rattle.model.specs.Laws.Members.{all-in, each-out, each-each, each-same, each-length}
-use Rattle.model.specs.Laws.Values.{value-out}
-use Rattle.table.specs.Rows.{Kind, number, cell, areZero, rowOf, tableOf, imageOf, areWide, table4}
+use Rattle.model.specs.Laws.Tests.{T-true}
+use Rattle.model.specs.Laws.Members.{each-each, each-same, each-length}
+use Rattle.table.specs.Rows.{Kind, number, cell, areZero, rowOf, tableOf, imageOf, areWide}
 use Rattle.table.specs.Laws.Kinds.{Lawful, number-lawful, cell-lawful}
 use Rattle.table.specs.Laws.Words.{table-length, words-all}
 use Rattle.table.specs.Laws.Images.{are-zeros, words-length, image-length, table-of-image}
-use Rattle.layout.specs.Rows.{entityRow, entityOf, cellRow, cellOf, netRow, idRow, idOf, groupRow, groupOf, entitiesImage, cellsImage, netImage, idsImage, groupsImage, entitiesIn, cellsIn, netIn, idsIn, groupsIn}
-use Rattle.layout.specs.Points.{listTidy}
-use Rattle.layout.specs.Facts.{TableLaws, Any, Anyhow, Listed, Tidied}
+use Rattle.layout.specs.Rows.{entityRow, entityOf, netRow, idRow, idOf, groupRow, groupOf, entitiesImage, cellsImage, netImage, idsImage, groupsImage, entitiesIn, cellsIn, netIn, idsIn, groupsIn}
+use Rattle.layout.specs.Facts.{TableLaws, Any, Anyhow}
 use Rattle.layout.specs.Laws.Zeros.{padded}
-use Rattle.layout.specs.Laws.Rows.{entity-written, id-written, group-written, net-written, list-length, cell-read, cell-written, list-tidy, rows-wide, cells-wide}
+use Rattle.layout.specs.Laws.Rows.{entity-written, id-written, group-written, net-written, rows-wide}
 
 -- The rows that are read have w words.
 table-wide : {K : Type 0} (kind : Kind K) (w n : ℕ) (s : List ℕ) → kind .size ≤ w → w * n ≤ length s → (p : K × List ℕ) → Mem p (tableOf kind w n s) → kind .size + length (p .1) ≡ w
@@ -119,29 +116,9 @@ groups-laws =
     table-laws number number-lawful 9 (omega arith) groupRow groupOf Any (λ p g. (refl, refl)) Anyhow
     (λ n s f p m e. group-written (p .0) (p .1) (omega arith))
 
--- The table of occupied cells, with their lists.
-pub cells-laws : TableLaws 30 cellsImage cellsIn Listed Tidied
+-- The table of occupied cells, with their masks.
+pub cells-laws : TableLaws 5 cellsImage cellsIn Any Anyhow
 unfolding cellsImage cellsIn
 cells-laws =
-    table-laws cell cell-lawful 30 (omega arith) cellRow cellOf Listed
-    (λ p g. (cell-read (p .0) (p .1) (g .room) (g .touching), omega (arith, list-length (p .0) (p .1) (g .few)))) Tidied
-    (λ n s f p m e. let t = f p m in cell-written (p .0) (p .1) (omega arith) (t .0) (t .1))
-
--- The lists that are written are tidy.
-pub lists-tidy : (len : ℕ) (t : List (Cell × List Cell)) → ((p : Cell × List Cell) → Mem p t → Listed p)
-    → all listTidy (values (table4 30 (length t) (cellsImage len t))) ≡ true
-unfolding cellsImage
-lists-tidy len t g =
-    let rows : List (Cell × List ℕ) = each cellRow t in
-    let back : table4 30 (length t) (imageOf cell len rows) ≡ rows =
-    ap (λ (n : ℕ). table4 30 n (imageOf cell len rows)) (sym (each-length cellRow t))
-    ∙ table-of-image cell cell-lawful 30 len rows (cells-wide t (λ p m. g p m .few)) in
-    ap (λ (u : List (Cell × List ℕ)). all listTidy (values u)) back
-    ∙ true-of (all listTidy (values rows)) (all-in listTidy (values rows) tidied)
-  where
-    tidied : (ws : List ℕ) → Mem ws (values (each cellRow t)) → T (listTidy ws)
-    tidied ws m =
-        let v = value-out (each cellRow t) m in
-        let r = each-out cellRow t (v .1) in
-        subst (λ u. T (listTidy u)) (sym (ap (λ (q : Cell × List ℕ). q .1) (r .2)))
-        (T-true (list-tidy (r .0 .0) (r .0 .1) (g (r .0) (r .1) .touching)))
+    table-laws cell cell-lawful 5 (omega arith) idRow idOf Any (λ p g. (refl, refl)) Anyhow
+    (λ n s f p m e. id-written (p .0) (p .1) (omega arith))

@@ -46,7 +46,7 @@ unfolding entitiesLen
 entities-room n h = omega arith
 
 -- There is room for the most occupied cells.
-pub cells-room : (n : ℕ) → n ≤ mostCells → 30 * n ≤ cellsLen
+pub cells-room : (n : ℕ) → n ≤ mostCells → 5 * n ≤ cellsLen
 unfolding cellsLen
 cells-room n h = omega arith
 

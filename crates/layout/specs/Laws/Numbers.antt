@@ -14,17 +14,19 @@ use Rattle.component.specs.Laws.Adjacent.{room-above}
 use Rattle.component.specs.Laws.Tests.{le-or-lt}
 use Rattle.component.specs.Touch.{touches}
 use Rattle.component.specs.Laws.Touch.{touches-within, neighbour-is-touching}
-use Rattle.layout.specs.Rows.{placeIn, numberOf, orSelf, neighbourOf}
+use Rattle.layout.specs.Rows.{numberOf, orSelf, neighbourOf}
+use Rattle.model.specs.Places.{placeIn, slotOf}
+use Rattle.model.specs.Laws.Slots.{slot-low, slot-high}
 
 -- The number of a place of the block, the centre left out.
 abbrev numbered : ℕ → ℕ
-numbered j = cond (ltb j 13) (suc j) j
+numbered j = suc (slotOf j)
 
 numbered-low : (j : ℕ) → j < 13 → numbered j ≡ suc j
-numbered-low j h = simp (lt-ltb j 13 h)
+numbered-low j h = ap suc (slot-low j h)
 
 numbered-high : (j : ℕ) → 13 ≤ j → numbered j ≡ j
-numbered-high j h = simp (le-ltb j 13 h)
+numbered-high j h = ap suc (slot-high j h) ∙ omega arith
 
 -- The place of a number, from 1.
 step-low : (k : ℕ) → k < 13 → stepN 13 k ≡ k

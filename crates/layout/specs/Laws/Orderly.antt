@@ -7,13 +7,11 @@ use lib.Dec.{eqb, leb}
 use lib.ListN.{getD}
 use borrow.Author.Tests.{eqb-true, eq-eqb}
 use Rattle.component.specs.Laws.Tests.{both}
-use Rattle.model.specs.Lists.{all, values}
 use Rattle.model.specs.Cells.{touch26}
 use Rattle.model.specs.Update.{State, mostEntities, mostCells}
-use Rattle.model.specs.Consistent.{withinNumber, cellsExact, listsExact, idsShared, recordsExact, idsBelowNext, coordinatesInRange, netsInOrder}
-use Rattle.table.specs.Rows.{table4}
+use Rattle.model.specs.Consistent.{withinNumber, cellsExact, masksExact, idsShared, recordsExact, idsBelowNext, coordinatesInRange, netsInOrder}
 use Rattle.layout.specs.State.{decode, entityWords, cellWords, occupiedWords, emptiedWords, idWords, groupWords, entityCount, cellCount, occupiedCount, emptiedCount, idCount, groupCount}
-use Rattle.layout.specs.Points.{tidy, listTidy, point1, point2, point3, point4, point5, point6, point7, point8, consistentWords}
+use Rattle.layout.specs.Points.{tidy, point1, point2, point3, point4, point5, point6, point7, point8, consistentWords}
 use Rattle.layout.specs.Facts.{Orderly}
 
 -- The two parts of a conjunction that holds.
@@ -57,7 +55,7 @@ module _ (w : List ℕ) where
   of4 = idsShared touch26 s && of5
 
   abbrev of3 : Bool
-  of3 = listsExact touch26 s && of4
+  of3 = masksExact touch26 s && of4
 
   abbrev of2 : Bool
   of2 = cellsExact s && of3
@@ -73,13 +71,10 @@ module _ (w : List ℕ) where
   few-ok = leb (cellCount w) mostCells
 
   abbrev cells-ok : Bool
-  cells-ok = tidy 30 mostCells (cellCount w) (cellWords w)
+  cells-ok = tidy 5 mostCells (cellCount w) (cellWords w)
 
   abbrev ids-ok : Bool
   ids-ok = tidy 5 mostCells (idCount w) (idWords w)
-
-  abbrev lists-ok : Bool
-  lists-ok = all listTidy (values (table4 30 (cellCount w) (cellWords w)))
 
   abbrev groups-ok : Bool
   groups-ok = tidy 9 mostCells (groupCount w) (groupWords w)
@@ -106,7 +101,6 @@ module _ (w : List ℕ) where
       let a3 = both few-ok (withinNumber s) (a2 .1) in
       let b1 = both cells-ok (ids-ok && cellsExact s) (p2 .0) in
       let b2 = both ids-ok (cellsExact s) (b1 .1) in
-      let c1 = both lists-ok (listsExact touch26 s) (p3 .0) in
       let d1 = both groups-ok (recordsExact s) (p5 .0) in
       let h1 = both occs-ok (emps-ok && netsInOrder s) (p7 .1) in
       let h2 = both emps-ok (netsInOrder s) (h1 .1) in
@@ -116,14 +110,13 @@ module _ (w : List ℕ) where
         cell-few = a3 .0;
         cell-rows = b1 .0;
         id-rows = b2 .0;
-        list-rows = c1 .0;
         group-rows = d1 .0;
         occupied-rows = h1 .0;
         emptied-rows = h2 .0;
         yard =
             and-in (withinNumber s) of2 (a3 .1)
             (and-in (cellsExact s) of3 (b2 .1)
-            (and-in (listsExact touch26 s) of4 (c1 .1)
+            (and-in (masksExact touch26 s) of4 (p3 .0)
             (and-in (idsShared touch26 s) of5 (p4 .0)
             (and-in (recordsExact s) of6 (d1 .1)
             (and-in (idsBelowNext s) of7 (p6 .0)
@@ -136,7 +129,7 @@ module _ (w : List ℕ) where
   orderly-in o =
       let p1 = both (withinNumber s) of2 (o .yard) in
       let p2 = both (cellsExact s) of3 (p1 .1) in
-      let p3 = both (listsExact touch26 s) of4 (p2 .1) in
+      let p3 = both (masksExact touch26 s) of4 (p2 .1) in
       let p4 = both (idsShared touch26 s) of5 (p3 .1) in
       let p5 = both (recordsExact s) of6 (p4 .1) in
       let p6 = both (idsBelowNext s) of7 (p5 .1) in
@@ -147,7 +140,7 @@ module _ (w : List ℕ) where
       (and-in ents-ok (few-ok && withinNumber s) (o .entity-rows) (and-in few-ok (withinNumber s) (o .cell-few) (p1 .0))))
       (and-in (point2 w) from3
       (and-in cells-ok (ids-ok && cellsExact s) (o .cell-rows) (and-in ids-ok (cellsExact s) (o .id-rows) (p2 .0)))
-      (and-in (point3 w) from4 (and-in lists-ok (listsExact touch26 s) (o .list-rows) (p3 .0))
+      (and-in (point3 w) from4 (p3 .0)
       (and-in (point4 w) from5 (p4 .0)
       (and-in (point5 w) from6 (and-in groups-ok (recordsExact s) (o .group-rows) (p5 .0))
       (and-in (point6 w) from7 (p6 .0)

@@ -16,11 +16,7 @@ use Rattle.model.specs.Groups.{Group}
 use Rattle.model.specs.Laws.Tests.{and-fst, and-snd, or-cases, T-true, true-of, eqb-of}
 use Rattle.model.specs.Laws.Members.{all-in, all-out, each-out, each-each, each-same, each-length, whilst-out}
 use Rattle.table.specs.Rows.{Kind, number, cell, areZero, areWide}
-use Rattle.layout.specs.Rows.{entityRow, entityOf, numberOf, neighbourOf, listWords, listCells, cellRow, cellOf, netRow, idRow, idOf, groupRow, groupOf}
-use Rattle.layout.specs.Points.{listTidy}
-use Rattle.layout.specs.Laws.Numbers.{number-range, neighbour-of-number, number-of-neighbour}
-use Rattle.table.specs.Laws.Images.{are-zeros}
-use Rattle.layout.specs.Laws.Zeros.{whilst-zeros, whilst-none, whilst-padded}
+use Rattle.layout.specs.Rows.{entityRow, entityOf, netRow, idRow, idOf, groupRow, groupOf}
 
 -- An entity's row is read as it was written.
 pub entity-read : (p : ℕ × Cell) → entityOf (entityRow p) ≡ p
@@ -67,74 +63,6 @@ pub net-written : (c : Cell) (ws : List ℕ) → length ws ≡ 0 → netRow c �
 net-written c [] e = refl
 net-written c (a ∷ ws) e = absurd (omega arith)
 
--- A list of at most 26 cells has 26 words.
-pub list-length : (c : Cell) (l : List Cell) → length l ≤ 26 → length (listWords c l) ≡ 26
-list-length c l h =
-    length-append (each (numberOf c) l) (replicate (26 - length l) 0)
-    ∙ omega (arith, each-length (numberOf c) l, length-replicate {A = ℕ} (26 - length l) 0)
-
--- The numbers of touching cells are not zero.
-numbers-some : (c : Cell) (l : List Cell) → ((d : Cell) → Mem d l → touches c d ≡ true) → (n : ℕ) → Mem n (each (numberOf c) l) → T (ltb 0 n)
-numbers-some c l f n m =
-    let r = each-out (numberOf c) l m in
-    lt→ltb 0 n (omega (arith, r .2, number-range c (r .0) (f (r .0) (r .1)) .0))
-
--- A list of touching cells is read as it was written.
-pub list-read : (c : Cell) (l : List Cell) → hasRoom 1 c ≡ true → ((d : Cell) → Mem d l → touches c d ≡ true) → listCells c (listWords c l) ≡ l
-list-read c l room f =
-    ap (each (neighbourOf c)) (whilst-zeros (each (numberOf c) l) (26 - length l) (numbers-some c l f))
-    ∙ each-each (neighbourOf c) (numberOf c) l
-    ∙ each-same (λ d. neighbourOf c (numberOf c d)) l (λ d m. neighbour-of-number c d (f d m) room)
-
--- The words of a list are written as they were read, where the cell has room or the list is empty.
-pub list-written : (c : Cell) (ws : List ℕ) → length ws ≡ 26 → listTidy ws ≡ true → (hasRoom 1 c || areZero ws) ≡ true → listWords c (listCells c ws) ≡ ws
-list-written c ws e t o =
-    let v : List ℕ = whilst (ltb 0) ws in
-    let k : T (all (λ n. leb n 26) ws) = and-fst (all (λ n. leb n 26) ws) (areZero (drop (length v) ws)) (T-true t) in
-    let z : T (areZero (drop (length v) ws)) = and-snd (all (λ n. leb n 26) ws) (areZero (drop (length v) ws)) (T-true t) in
-    let same : each (numberOf c) (each (neighbourOf c) v) ≡ v =
-    each-each (numberOf c) (neighbourOf c) v
-    ∙ ⊎-elim (λ r. each-same (λ n. numberOf c (neighbourOf c n)) v (λ n m. back r k n m)) (λ r. nothing (whilst-none ws r)) (or-cases (hasRoom 1 c) (areZero ws) (T-true o)) in
-    let n : 26 - length (each (neighbourOf c) v) ≡ length ws - length v = omega (arith, each-length (neighbourOf c) v) in
-    (λ i. same i ++ replicate (n i) 0) ∙ whilst-padded (ltb 0) ws z
-  where
-    back : T (hasRoom 1 c) → T (all (λ n. leb n 26) ws) → (n : ℕ) → Mem n (whilst (ltb 0) ws) → numberOf c (neighbourOf c n) ≡ n
-    back r k n m =
-        let w = whilst-out (ltb 0) ws m in
-        number-of-neighbour c (true-of (hasRoom 1 c) r) n (ltb→lt 0 n (w .1)) (leb→le n 26 (all-out (λ n. leb n 26) ws k (w .0)))
-
-    nothing : whilst (ltb 0) ws ≡ [] → each (λ n. numberOf c (neighbourOf c n)) (whilst (ltb 0) ws) ≡ whilst (ltb 0) ws
-    nothing e = ap (each (λ n. numberOf c (neighbourOf c n))) e ∙ sym e
-
--- An occupied cell's row is read as it was written.
-pub cell-read : (c : Cell) (l : List Cell) → hasRoom 1 c ≡ true → ((d : Cell) → Mem d l → touches c d ≡ true) → cellOf (cellRow (c, l)) ≡ (c, l)
-cell-read c l room f = ap (λ (k : List Cell). (c, k)) (list-read c l room f)
-
--- The words of an occupied cell's row are written as they were read.
-pub cell-written : (c : Cell) (ws : List ℕ) → length ws ≡ 26 → listTidy ws ≡ true → (hasRoom 1 c || areZero ws) ≡ true → cellRow (cellOf (c, ws)) ≡ (c, ws)
-cell-written c ws e t o = ap (λ (k : List ℕ). (c, k)) (list-written c ws e t o)
-
--- A written list is tidy.
-pub list-tidy : (c : Cell) (l : List Cell) → ((d : Cell) → Mem d l → touches c d ≡ true) → listTidy (listWords c l) ≡ true
-list-tidy c l f =
-    let m : ℕ = 26 - length l in
-    let v : List ℕ = each (numberOf c) l in
-    let ws : List ℕ = v ++ replicate m 0 in
-    let w : whilst (ltb 0) ws ≡ v = whilst-zeros v m (λ n k. numbers-some c l f n k) in
-    let b : all (λ n. leb n 26) ws ≡ true =
-    true-of (all (λ n. leb n 26) ws) (all-in (λ n. leb n 26) ws (λ n k. ⊎-elim (numbers-few n) (zeros-few m n) (append-cases v k))) in
-    let z : areZero (drop (length (whilst (ltb 0) ws)) ws) ≡ true =
-    ap (λ (u : List ℕ). areZero (drop (length u) ws)) w ∙ ap areZero (drop-append-seam v (replicate m 0)) ∙ are-zeros m in
-    λ i. b i && z i
-  where
-    numbers-few : (n : ℕ) → Mem n (each (numberOf c) l) → T (leb n 26)
-    numbers-few n m =
-        let r = each-out (numberOf c) l m in
-        le→leb n 26 (omega (arith, r .2, number-range c (r .0) (f (r .0) (r .1)) .1))
-
-    zeros-few : (m n : ℕ) → Mem n (replicate m 0) → T (leb n 26)
-    zeros-few m n k = le→leb n 26 (omega (arith, eqb→eq 0 n (all-out (eqb 0) (replicate m 0) (T-true (are-zeros m)) k)))
-
 -- Rows that all have w words are wide.
 pub rows-wide : {A K : Type 0} (kind : Kind K) (w : ℕ) (row : A → K × List ℕ) (t : List A)
     → ((a : A) → Mem a t → kind .size + length (row a .1) ≡ w) → areWide kind w (each row t) ≡ true
@@ -147,10 +75,6 @@ rows-wide {A} {K} kind w row t f =
 -- Rows of entities have 5 words.
 pub entities-wide : (t : List (ℕ × Cell)) → areWide number 5 (each entityRow t) ≡ true
 entities-wide t = rows-wide number 5 entityRow t (λ p m. refl)
-
--- Rows of occupied cells with at most 26 neighbours have 30 words.
-pub cells-wide : (t : List (Cell × List Cell)) → ((p : Cell × List Cell) → Mem p t → length (p .1) ≤ 26) → areWide cell 30 (each cellRow t) ≡ true
-cells-wide t f = rows-wide cell 30 cellRow t (λ p m. omega (arith, list-length (p .0) (p .1) (f p m)))
 
 -- Rows of net lists have 4 words.
 pub nets-wide : (t : List Cell) → areWide cell 4 (each netRow t) ≡ true

@@ -21,7 +21,7 @@ module _ (s : State) (fits : Fits s) where
   ents = entitiesImage entitiesLen (s .occupancy .entities)
 
   abbrev cels : List ℕ
-  cels = cellsImage cellsLen (s .occupancy .lists)
+  cels = cellsImage cellsLen (s .occupancy .masks)
 
   abbrev occs : List ℕ
   occs = netImage netLen (s .occupancy .newlyOccupied)
@@ -39,7 +39,7 @@ module _ (s : State) (fits : Fits s) where
   entities-long = entities-laws .long entitiesLen (s .occupancy .entities) (λ a m. tt) (entities-room (length (s .occupancy .entities)) (fits .entities))
 
   cells-long : length cels ≡ cellsLen
-  cells-long = cells-laws .long cellsLen (s .occupancy .lists) (fits .lists) (cells-room (length (s .occupancy .lists)) (fits .cells))
+  cells-long = cells-laws .long cellsLen (s .occupancy .masks) (λ a m. tt) (cells-room (length (s .occupancy .masks)) (fits .cells))
 
   occupied-long : length occs ≡ netLen
   occupied-long = net-laws .long netLen (s .occupancy .newlyOccupied) (λ a m. tt) (net-room (length (s .occupancy .newlyOccupied)) (fits .newly-occupied))

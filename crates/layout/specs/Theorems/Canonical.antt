@@ -20,15 +20,15 @@ use Rattle.model.specs.Laws.Members.{all-out, each-in, key-in}
 use Rattle.model.specs.Laws.Values.{value-in}
 use Rattle.model.specs.Laws.Touching.{touching-26}
 use Rattle.model.specs.Laws.Consistency.{Ok, ok-out}
-use Rattle.table.specs.Rows.{areZero, table4}
-use Rattle.layout.specs.Rows.{cellOf, entitiesImage, cellsImage, netImage, idsImage, groupsImage, entitiesIn, cellsIn, netIn, idsIn, groupsIn}
+use Rattle.table.specs.Rows.{areZero}
+use Rattle.layout.specs.Rows.{entitiesImage, cellsImage, netImage, idsImage, groupsImage, entitiesIn, cellsIn, netIn, idsIn, groupsIn}
 use Rattle.layout.specs.State.{entitiesLen, cellsLen, netLen, idsLen, groupsLen, entitiesFrom, cellsFrom, occupiedFrom, emptiedFrom, idsFrom, groupsFrom, stateLen, header, encode, decode, entityWords, cellWords, occupiedWords, emptiedWords, idWords, groupWords, entityCount, cellCount, occupiedCount, emptiedCount, idCount, groupCount}
-use Rattle.layout.specs.Points.{tidy, listTidy, longEnough, consistentWords}
-use Rattle.layout.specs.Facts.{TableLaws, Tidied, Fits, Stands, Orderly}
-use Rattle.layout.specs.Laws.Images.{entities-laws, cells-laws, net-laws, ids-laws, groups-laws, lists-tidy}
+use Rattle.layout.specs.Points.{tidy, longEnough, consistentWords}
+use Rattle.layout.specs.Facts.{TableLaws, Fits, Stands, Orderly}
+use Rattle.layout.specs.Laws.Images.{entities-laws, cells-laws, net-laws, ids-laws, groups-laws}
 use Rattle.layout.specs.Laws.Lengths.{header-end, entities-end, cells-end, occupied-end, emptied-end, ids-end, groups-end, entities-room, cells-room, net-room, ids-room, groups-room}
 use Rattle.layout.specs.Laws.Parts.{take-more, first-eight}
-use Rattle.layout.specs.Laws.Fitting.{consistent-fits, occupied-room}
+use Rattle.layout.specs.Laws.Fitting.{consistent-fits}
 use Rattle.layout.specs.Laws.Standing.{image-stands}
 use Rattle.layout.specs.Theorems.DecodeEncode.{decode-longer}
 use Rattle.layout.specs.Laws.Orderly.{orderly-out, orderly-in}
@@ -104,16 +104,6 @@ module _ (w : List ℕ) (long : stateLen ≤ length w) where
         ∷ sym (groups-laws .counted (groupCount w) (groupWords w)) i
         ∷ getD w 6 0 ∷ o .last i ∷ [])
 
-    -- Each list is tidy, and each occupied cell has room.
-    lists-tidied : Tidied (cellCount w) (cellWords w)
-    unfolding decode cellsIn
-    lists-tidied p m =
-        let t : T (listTidy (p .1)) =
-        all-out listTidy (values (table4 30 (cellCount w) (cellWords w))) (T-true (o .list-rows)) (value-in m) in
-        let ok : Ok touch26 (decode w) = ok-out touch26 (touching-26 .flip) (decode w) (T-true (o .yard)) in
-        let r : hasRoom 1 (p .0) ≡ true = occupied-room (decode w) ok (p .0) (key-in (each-in cellOf m)) in
-        (true-of (listTidy (p .1)) t, λ i. r i || areZero (p .1))
-
     -- The words of a consistent state are its image.
     words-image : take stateLen w ≡ encode (decode w)
     unfolding encode decode
@@ -123,7 +113,7 @@ module _ (w : List ℕ) (long : stateLen ≤ length w) where
         (part-length w entitiesFrom entitiesLen cellsFrom entities-end cells-fit) (entities-room (entityCount w)) (o .entity-rows) tt in
         let cells : cellsImage cellsLen (cellsIn (cellCount w) (cellWords w)) ≡ cellWords w =
         tidy-image cells-laws mostCells cellsLen (cellCount w) (cellWords w)
-        (part-length w cellsFrom cellsLen occupiedFrom cells-end occupied-fit) (cells-room (cellCount w)) (o .cell-rows) lists-tidied in
+        (part-length w cellsFrom cellsLen occupiedFrom cells-end occupied-fit) (cells-room (cellCount w)) (o .cell-rows) tt in
         let occupied : netImage netLen (netIn (occupiedCount w) (occupiedWords w)) ≡ occupiedWords w =
         tidy-image net-laws mostCells netLen (occupiedCount w) (occupiedWords w)
         (part-length w occupiedFrom netLen emptiedFrom occupied-end emptied-fit) (net-room (occupiedCount w)) (o .occupied-rows) tt in
@@ -155,10 +145,9 @@ image-consistent s rest t =
     orderly-in w (record {
       last = st .last-zero;
       entity-rows = (λ i. tidy 5 mostEntities (st .entity-count i) (st .entity-words i)) ∙ image-tidy entities-laws mostEntities entitiesLen (s .occupancy .entities) (λ a m. tt) (f .entities);
-      cell-few = ap (λ (n : ℕ). leb n mostCells) (st .cell-count) ∙ le-leb (length (s .occupancy .lists)) mostCells (f .cells);
-      cell-rows = (λ i. tidy 30 mostCells (st .cell-count i) (st .cell-words i)) ∙ image-tidy cells-laws mostCells cellsLen (s .occupancy .lists) (f .lists) (f .cells);
+      cell-few = ap (λ (n : ℕ). leb n mostCells) (st .cell-count) ∙ le-leb (length (s .occupancy .masks)) mostCells (f .cells);
+      cell-rows = (λ i. tidy 5 mostCells (st .cell-count i) (st .cell-words i)) ∙ image-tidy cells-laws mostCells cellsLen (s .occupancy .masks) (λ a m. tt) (f .cells);
       id-rows = (λ i. tidy 5 mostCells (st .id-count i) (st .id-words i)) ∙ image-tidy ids-laws mostCells idsLen (s .groups .ids) (λ a m. tt) (f .ids);
-      list-rows = (λ i. all listTidy (values (table4 30 (st .cell-count i) (st .cell-words i)))) ∙ lists-tidy cellsLen (s .occupancy .lists) (f .lists);
       group-rows = (λ i. tidy 9 mostCells (st .group-count i) (st .group-words i)) ∙ image-tidy groups-laws mostCells groupsLen (s .records) (λ a m. tt) (f .groups);
       occupied-rows = (λ i. tidy 4 mostCells (st .occupied-count i) (st .occupied-words i)) ∙ image-tidy net-laws mostCells netLen (s .occupancy .newlyOccupied) (λ a m. tt) (f .newly-occupied);
       emptied-rows = (λ i. tidy 4 mostCells (st .emptied-count i) (st .emptied-words i)) ∙ image-tidy net-laws mostCells netLen (s .occupancy .newlyEmptied) (λ a m. tt) (f .newly-emptied);

@@ -20,8 +20,8 @@ unfolding decode
 decode-stands s w fits st =
     let entities : entitiesIn (entityCount w) (entityWords w) ≡ s .occupancy .entities =
     (λ i. entitiesIn (st .entity-count i) (st .entity-words i)) ∙ entities-laws .read entitiesLen (s .occupancy .entities) (λ a m. tt) in
-    let lists : cellsIn (cellCount w) (cellWords w) ≡ s .occupancy .lists =
-    (λ i. cellsIn (st .cell-count i) (st .cell-words i)) ∙ cells-laws .read cellsLen (s .occupancy .lists) (fits .lists) in
+    let masks : cellsIn (cellCount w) (cellWords w) ≡ s .occupancy .masks =
+    (λ i. cellsIn (st .cell-count i) (st .cell-words i)) ∙ cells-laws .read cellsLen (s .occupancy .masks) (λ a m. tt) in
     let occupied : netIn (occupiedCount w) (occupiedWords w) ≡ s .occupancy .newlyOccupied =
     (λ i. netIn (st .occupied-count i) (st .occupied-words i)) ∙ net-laws .read netLen (s .occupancy .newlyOccupied) (λ a m. tt) in
     let emptied : netIn (emptiedCount w) (emptiedWords w) ≡ s .occupancy .newlyEmptied =
@@ -31,7 +31,7 @@ decode-stands s w fits st =
     let groups : groupsIn (groupCount w) (groupWords w) ≡ s .records =
     (λ i. groupsIn (st .group-count i) (st .group-words i)) ∙ groups-laws .read groupsLen (s .records) (λ a m. tt) in
     λ i. record {
-      occupancy = record { entities = entities i; lists = lists i; newlyOccupied = occupied i; newlyEmptied = emptied i };
+      occupancy = record { entities = entities i; masks = masks i; newlyOccupied = occupied i; newlyEmptied = emptied i };
       groups = record { ids = ids i; next = st .next-id i };
       records = groups i;
     }

@@ -1,31 +1,27 @@
--- After k numbers those of the first k neighbours that are keys are noted.
+-- After k numbers the bits of the first k neighbours are noted.
 use Rattle.map.specs.Laws.Tables.{note-none, note-yes, note-no}
-use Rattle.map.specs.Told.{padded, noted}
+use Rattle.map.specs.Told.{noted}
 use Rattle.table.specs.Rows.{cell, table4}
 use Rattle.table.specs.Laws.Kinds.{cell-lawful}
 use Rattle.table.specs.Laws.Answers.{is-among}
 use Rattle.layout.specs.Rows.{neighbourOf}
 use Rattle.model.specs.Lists.{has, keys}
 use Rattle.component.specs.Order.{same}
-use lib.ListN.{length, take}
-use mathlib.Core.List.{_++_}
-use mathlib.Core.Path.{_≡_, refl, sym, ap, _∙_}
+use mathlib.Core.Path.{_≡_, sym, ap, _∙_}
 use native.Mathlib.Omega.{arith}
-use Prim.Native.Nat.{ℕ, _+_, _-_, _≤_}
+use Prim.Native.Nat.{ℕ, _-_, _≤_}
 use borrow.Author.Needs.{needs}
 use Rattle.map.proofs.note.Statement.{statement}
 use Rattle.map.proofs.note.Tie as tie
 
 abbrev Inv-loop : tie.InvT-loop
-Inv-loop cells m c row₀ near₀ k₀ row near k = (k ≤ 26) × (length row ≡ length row₀) × (row ≡ take 4 row₀ ++ padded 26 (noted (keys (table4 30 m cells)) (neighbourOf c) k))
+Inv-loop cells m c mask₀ near₀ k₀ mask near k = (k ≤ 26) × (mask ≡ noted (keys (table4 5 m cells)) (neighbourOf c) k)
 
 abbrev μ-loop : tie.MeasureT-loop
-μ-loop cells m c row₀ near₀ k₀ row near k = 26 - k
+μ-loop cells m c mask₀ near₀ k₀ mask near k = 26 - k
 
 loop-holds : tie.Need-loop-holds Inv-loop μ-loop
-loop-holds c =
-    let a = c .before .before .args in
-    (omega arith, refl, note-none (keys (table4 30 (a .m) (a .cells .now))) (neighbourOf (a .c)) (a .row .now) (c .before .before .pre .2))
+loop-holds c = let a = c .before .args in (omega arith, note-none (keys (table4 5 (a .m) (a .cells .now))) (neighbourOf (a .c)))
 
 add-neighbour-of : tie.Need-add-neighbour-of Inv-loop μ-loop
 add-neighbour-of c = search needs
@@ -34,7 +30,7 @@ neighbour-of-requires : tie.Need-neighbour-of-requires Inv-loop μ-loop
 neighbour-of-requires c κs = search needs
 
 find4-near-requires : tie.Need-find4-near-requires Inv-loop μ-loop
-find4-near-requires c κs = c .before .before .before .before .before .pre .0
+find4-near-requires c κs = c .before .before .before .before .pre
 
 index-requires : tie.Need-index-requires Inv-loop μ-loop
 index-requires c κs = search needs
@@ -42,11 +38,8 @@ index-requires c κs = search needs
 is-found-requires : tie.Need-is-found-requires Inv-loop μ-loop
 is-found-requires c κs = search needs
 
-add-append : tie.Need-add-append Inv-loop μ-loop
-add-append c = search needs
-
-append-requires : tie.Need-append-requires Inv-loop μ-loop
-append-requires c κs = omega (arith, c .before .before .before .before .before .before .before .loop .inv .1, c .before .before .before .before .before .before .before .before .before .before .pre .1)
+set-requires : tie.Need-set-requires Inv-loop μ-loop
+set-requires c κs = search needs
 
 add-k : tie.Need-add-k Inv-loop μ-loop
 add-k c = search needs
@@ -55,14 +48,7 @@ loop-less : tie.Need-loop-less Inv-loop μ-loop
 loop-less c = search needs
 
 loop-again : tie.Need-loop-again Inv-loop μ-loop
-loop-again c =
-    let a = c .before .before .before .before .before .before .before .before .before .before .before .before .before .args in
-    let l = c .before .before .before .before .before .before .before .before .before .before .loop in (
-      omega arith,
-      c .before .before .append .kept .0 ∙ l .inv .1,
-      note-yes (keys (table4 30 (a .m) (a .cells .now))) (neighbourOf (a .c)) (l .k) (a .row .now) (c .before .before .before .before .before .before .before .before .before .before .before .before .before .pre .1) (omega arith) (l .row) (l .inv .2)
-          (ap (has same (keys (table4 30 (a .m) (a .cells .now)))) (sym (c .before .before .before .before .before .before .before .before .neighbour-of .ensures)) ∙ sym (is-among cell cell-lawful 30 (a .m) (a .cells .now) (c .before .before .before .before .before .before .before .before .before .before .before .before .before .pre .0) (c .before .before .before .before .before .before .before .before .neighbour-of .result) (c .before .before .before .before .before .before .before .find4-near .result) (c .before .before .before .before .before .before .before .find4-near .ensures)) ∙ sym (c .before .before .before .before .before .is-found .ensures) ∙ c .before .before .before .before .if1 .taken) (c .before .before .append .last .0) (c .before .before .append .ensures),
-    )
+loop-again c = let a = c .before .before .before .before .before .before .before .before .before .args in let l = c .before .before .before .before .before .before .before .loop in (omega arith, note-yes (keys (table4 5 (a .m) (a .cells .now))) (neighbourOf (a .c)) (l .k) (l .mask) (l .inv .1) (ap (has same (keys (table4 5 (a .m) (a .cells .now)))) (sym (c .before .before .before .before .before .neighbour-of .ensures)) ∙ sym (is-among cell cell-lawful 5 (a .m) (a .cells .now) (c .before .before .before .before .before .before .before .before .before .pre) (c .before .before .before .before .before .neighbour-of .result) (c .before .before .before .before .find4-near .result) (c .before .before .before .before .find4-near .ensures)) ∙ sym (c .before .before .is-found .ensures) ∙ c .before .if1 .taken) (c .set .result) (c .set .ensures))
 
 add-k-2 : tie.Need-add-k-2 Inv-loop μ-loop
 add-k-2 c = search needs
@@ -71,24 +57,14 @@ loop-less-2 : tie.Need-loop-less-2 Inv-loop μ-loop
 loop-less-2 c = search needs
 
 loop-again-2 : tie.Need-loop-again-2 Inv-loop μ-loop
-loop-again-2 c =
-    let a = c .before .before .before .before .before .before .before .before .before .args in
-    let l = c .before .before .before .before .before .before .loop in (
-      omega arith,
-      l .inv .1,
-      note-no (keys (table4 30 (a .m) (a .cells .now))) (neighbourOf (a .c)) (l .k) (a .row .now) (l .row) (l .inv .2)
-          (ap (has same (keys (table4 30 (a .m) (a .cells .now)))) (sym (c .before .before .before .before .neighbour-of .ensures)) ∙ sym (is-among cell cell-lawful 30 (a .m) (a .cells .now) (c .before .before .before .before .before .before .before .before .before .pre .0) (c .before .before .before .before .neighbour-of .result) (c .before .before .before .find4-near .result) (c .before .before .before .find4-near .ensures)) ∙ sym (c .before .is-found .ensures) ∙ c .if1 .left),
-    )
-
-same-length : tie.Need-same-length Inv-loop μ-loop
-same-length c = search needs
+loop-again-2 c = let a = c .before .before .before .before .before .before .before .before .args in let l = c .before .before .before .before .before .before .loop in (omega arith, note-no (keys (table4 5 (a .m) (a .cells .now))) (neighbourOf (a .c)) (l .k) (l .mask) (l .inv .1) (ap (has same (keys (table4 5 (a .m) (a .cells .now)))) (sym (c .before .before .before .before .neighbour-of .ensures)) ∙ sym (is-among cell cell-lawful 5 (a .m) (a .cells .now) (c .before .before .before .before .before .before .before .before .pre) (c .before .before .before .before .neighbour-of .result) (c .before .before .before .find4-near .result) (c .before .before .before .find4-near .ensures)) ∙ sym (c .before .is-found .ensures) ∙ c .if1 .left))
 
 returns : tie.Need-returns Inv-loop μ-loop
 returns c =
-    let a = c .before .before .before .before .args in
+    let a = c .before .before .before .args in
     let l = c .before .loop in
     let e : l .k ≡ 26 = omega arith in
-    l .inv .2 ∙ ap (λ (k : ℕ). take 4 (a .row .now) ++ padded 26 (noted (keys (table4 30 (a .m) (a .cells .now))) (neighbourOf (a .c)) k)) e
+    l .inv .1 ∙ ap (noted (keys (table4 5 (a .m) (a .cells .now))) (neighbourOf (a .c))) e
 
 pub note-spec : {M : Type 1} → statement M
 note-spec =
@@ -102,13 +78,11 @@ note-spec =
     find4-near-requires
     index-requires
     is-found-requires
-    add-append
-    append-requires
+    set-requires
     add-k
     loop-less
     loop-again
     add-k-2
     loop-less-2
     loop-again-2
-    same-length
     returns)

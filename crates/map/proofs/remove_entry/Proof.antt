@@ -8,7 +8,7 @@ use Rattle.map.proofs.remove_entry.Tie as tie
 remove4-requires : tie.Need-remove4-requires
 remove4-requires c κs =
     let s = c .before .before .before .before in let a = s .args in
-    closes-shown (a .cells .now) (a .occ .now) (a .emp .now) (a .n) (a .c) (s .pre .0) (s .pre .1) .lists .table
+    closes-shown (a .cells .now) (a .occ .now) (a .emp .now) (a .n) (a .c) (s .pre .0) (s .pre .1) .masks .table
 
 tell-requires : tie.Need-tell-requires
 tell-requires c κs =

@@ -6,6 +6,7 @@ use Rattle.model.specs.Lists.{keys}
 use Rattle.component.specs.Order.{below}
 use mathlib.Core.Path.{sym, _∙_, ap}
 use Prim.Native.Nat.{_-_}
+use native.Mathlib.Omega.{arith}
 use borrow.Author.Needs.{needs}
 use Rattle.map.proofs.tell_one.Statement.{statement}
 use Rattle.map.proofs.tell_one.Tie as tie
@@ -24,9 +25,11 @@ sub-revise c = search needs
 
 revise-requires : tie.Need-revise-requires
 revise-requires c κs =
-    let s = c .before .before .before .before .before .before .before .before in
-    found-row (s .args .m) (s .args .cells .now) (s .pre .0) (s .args .joins) (neighbourOf (s .args .c) (s .args .k)) (27 - s .args .k) (c .before .before .p .given .0 .0)
-    (sym (c .before .before .p .given .1) ∙ c .before .before .before .before .find4-near .ensures ∙ ap (placeOf below (keys (table4 30 (s .args .m) (s .args .cells .now)))) (c .before .before .before .before .before .neighbour-of .ensures))
+    let s = c .before .before .before .before .before .before .before .before in (
+      found-row (s .args .m) (s .args .cells .now) (s .pre .0) (s .args .joins) (neighbourOf (s .args .c) (s .args .k)) (26 - s .args .k) (c .before .before .p .given .0 .0)
+          (sym (c .before .before .p .given .1) ∙ c .before .before .before .before .find4-near .ensures ∙ ap (placeOf below (keys (table4 5 (s .args .m) (s .args .cells .now)))) (c .before .before .before .before .before .neighbour-of .ensures)),
+      omega arith,
+    )
 
 enum-known-p-2 : tie.Need-enum-known-p-2
 enum-known-p-2 c = search needs
@@ -37,8 +40,8 @@ same-length c = search needs
 returns : tie.Need-returns
 returns c =
     let s = c .before .before .before .before .before .before .before .before .before .before .before in
-    told-found (s .args .m) (s .args .cells .now) (s .pre .0) (s .args .joins) (neighbourOf (s .args .c) (s .args .k)) (27 - s .args .k) (c .before .before .before .before .before .p .given .0 .0)
-    (sym (c .before .before .before .before .before .p .given .1) ∙ c .before .before .before .before .before .before .before .find4-near .ensures ∙ ap (placeOf below (keys (table4 30 (s .args .m) (s .args .cells .now)))) (c .before .before .before .before .before .before .before .before .neighbour-of .ensures))
+    told-found (s .args .m) (s .args .cells .now) (s .pre .0) (s .args .joins) (neighbourOf (s .args .c) (s .args .k)) (26 - s .args .k) (c .before .before .before .before .before .p .given .0 .0)
+    (sym (c .before .before .before .before .before .p .given .1) ∙ c .before .before .before .before .before .before .before .find4-near .ensures ∙ ap (placeOf below (keys (table4 5 (s .args .m) (s .args .cells .now)))) (c .before .before .before .before .before .before .before .before .neighbour-of .ensures))
     (c .before .before .revise .last .0) (c .before .before .revise .ensures)
 
 same-length-2 : tie.Need-same-length-2
@@ -47,8 +50,8 @@ same-length-2 c = search needs
 returns-2 : tie.Need-returns-2
 returns-2 c =
     let s = c .before .before .before .before .before .before .before in
-    told-missing (s .args .m) (s .args .cells .now) (s .pre .0) (s .args .joins) (neighbourOf (s .args .c) (s .args .k)) (27 - s .args .k) (c .before .p2 .given .0 .0)
-    (sym (c .before .p2 .given .1) ∙ c .before .before .before .find4-near .ensures ∙ ap (placeOf below (keys (table4 30 (s .args .m) (s .args .cells .now)))) (c .before .before .before .before .neighbour-of .ensures))
+    told-missing (s .args .m) (s .args .cells .now) (s .pre .0) (s .args .joins) (neighbourOf (s .args .c) (s .args .k)) (26 - s .args .k) (c .before .p2 .given .0 .0)
+    (sym (c .before .p2 .given .1) ∙ c .before .before .before .find4-near .ensures ∙ ap (placeOf below (keys (table4 5 (s .args .m) (s .args .cells .now)))) (c .before .before .before .before .neighbour-of .ensures))
 
 pub tell-one-spec : {M : Type 1} → statement M
 tell-one-spec =

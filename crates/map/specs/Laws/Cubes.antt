@@ -100,15 +100,15 @@ module _ (r : ℕ) (c : Cell) (a : Above r c) (l : List Cell) (s : Asc below l) 
 
 module _ (table : List ℕ) (n r : ℕ) (c : Cell) where
   abbrev rowCells : List Cell
-  rowCells = keys (table4 30 n table)
+  rowCells = keys (table4 5 n table)
 
   module _ (front words : List ℕ) (k i : ℕ) (e : take (4 * k) words ≡ front ++ gather answerWords (keep (beside r c) (take i rowCells))) (g : i < n)
-      (d : Cell) (q : d ≡ cellAt table (30 * i)) (b : Bool) (u : b ≡ beside r c d) where
+      (d : Cell) (q : d ≡ cellAt table (5 * i)) (b : Bool) (u : b ≡ beside r c d) where
     long : length rowCells ≡ n
-    long = keys-length cell 30 n table
+    long = keys-length cell 5 n table
 
     at-row : getD rowCells i d ≡ d
-    at-row = cell-at 30 n table (omega arith) i d g ∙ sym q
+    at-row = cell-at 5 n table (omega arith) i d g ∙ sym q
 
     -- The cell of the next row is beside the centre.
     pub beside-step : b ≡ true → (words′ : List ℕ) → 4 * k + 4 ≤ length words → words′ ≡ over words (4 * k) (answerWords d)
@@ -130,4 +130,4 @@ module _ (table : List ℕ) (n r : ℕ) (c : Cell) where
   pub beside-end : (front words : List ℕ) (k i : ℕ) → take (4 * k) words ≡ front ++ gather answerWords (keep (beside r c) (take i rowCells)) → i ≡ n
       → take (4 * k) words ≡ front ++ gather answerWords (keep (beside r c) rowCells)
   beside-end front words k i e g =
-      e ∙ ap (λ (l : List Cell). front ++ gather answerWords (keep (beside r c) l)) (take-all i rowCells (omega (arith, keys-length cell 30 n table)))
+      e ∙ ap (λ (l : List Cell). front ++ gather answerWords (keep (beside r c) l)) (take-all i rowCells (omega (arith, keys-length cell 5 n table)))

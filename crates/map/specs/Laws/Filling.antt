@@ -1,5 +1,5 @@
 -- An answer is written cell by cell.
-use Prim.Native.Nat.{ℕ, _+_, _*_, _≤_, _<_}
+use Prim.Native.Nat.{ℕ, suc, _+_, _*_, _≤_, _<_}
 use native.Mathlib.Numerals.{add-one}
 use native.Mathlib.Omega.{arith}
 use mathlib.Core.Path.{_≡_, refl, sym, _∙_, ap}
@@ -54,6 +54,52 @@ unfolding filled over
 filled-length s l h =
     let w : List ℕ = gather answerWords l in
     omega (arith, words-long l, length-append w (drop (0 + length w) s), length-drop (0 + length w) s)
+
+-- The first cell.
+pub filled-first : (s : List ℕ) (c : Cell) → over s 0 (answerWords c) ≡ filled s (c ∷ [])
+unfolding filled
+filled-first s c = refl
+
+-- One cell more at the end.
+pub filled-end : (s : List ℕ) (l : List Cell) (c : Cell) → over (filled s l) (4 * length l) (answerWords c) ≡ filled s (l ++ (c ∷ []))
+unfolding filled
+filled-end s l c =
+    ap (λ m. over (over s 0 (gather answerWords l)) m (answerWords c)) (sym (words-long l))
+    ∙ over-more s (gather answerWords l) (answerWords c)
+    ∙ ap (over s 0) (sym (gather-append answerWords l (c ∷ []) ∙ ap (λ w. gather answerWords l ++ w) (append-nil (answerWords c))))
+
+-- Some cells once more over an answer that begins with one.
+pub filled-again : (s : List ℕ) (c d : Cell) (l : List Cell) → filled (over s 0 (answerWords c)) (d ∷ l) ≡ filled s (d ∷ l)
+unfolding filled over
+filled-again s c d l =
+    let w : List ℕ = gather answerWords (d ∷ l) in
+    let m : ℕ = length (gather answerWords l) in
+    let z : 0 + length w ≡ suc (suc (suc (suc m))) = omega arith in
+    let y : 0 + 4 + m ≡ 0 + length w = omega arith in
+    ap (λ n. w ++ drop n (answerWords c ++ drop (0 + 4) s)) z ∙ ap (λ r. w ++ r) (drop-drop m (0 + 4) s) ∙ ap (λ n. w ++ drop n s) y
+
+-- Some cells are written.
+pub record Written (s : List ℕ) (l : List Cell) (answer : List ℕ) : Type 0 where
+  pub is : answer ≡ filled s l
+
+-- The first cell is written, also over itself.
+pub written-first : {a : List ℕ} (s : List ℕ) (c : Cell) (l : List Cell) → a ≡ over s 0 (answerWords c) → l ≡ c ∷ [] → Written a l a
+written-first s c l e z =
+    record { is = e ∙ filled-first s c ∙ sym (filled-again s c c []) ∙ (λ i. filled (sym e i) (sym z i)) }
+
+-- One cell more is written.
+pub written-end : {s : List ℕ} {l : List Cell} {answer : List ℕ} → Written s l answer → (answer′ : List ℕ) (l′ : List Cell) (e : ℕ) (c : Cell)
+    → e ≡ length l → answer′ ≡ over answer (4 * e) (answerWords c) → l′ ≡ l ++ (c ∷ []) → Written s l′ answer′
+written-end {s} {l} {answer} w answer′ l′ e c z f g =
+    record { is = f ∙ (λ i. over (w .is i) (4 * z i) (answerWords c)) ∙ filled-end s l c ∙ ap (filled s) (sym g) }
+
+-- The same cells.
+pub written-same : {s : List ℕ} {l : List Cell} {answer : List ℕ} → Written s l answer → (l′ : List Cell) → l′ ≡ l → Written s l′ answer
+written-same {s} w l′ e = record { is = w .is ∙ ap (filled s) (sym e) }
+
+-- The first cell was written beforehand.
+pub written-back : {a : List ℕ} {l : List Cell} {answer : List ℕ} → Written a l answer → (s : List ℕ) (c d : Cell) (r : List Cell) → a ≡ over s 0 (answerWords c) → l ≡ d ∷ r → answer ≡ filled s l
+written-back {a} {l} w s c d r e z = w .is ∙ (λ i. filled (e i) (z i)) ∙ filled-again s c d r ∙ ap (filled s) (sym z)
 
 module _ (s : List ℕ) (l : List Cell) (k : ℕ) where
   -- An answer keeps its length while it is written.

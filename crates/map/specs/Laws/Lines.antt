@@ -1,15 +1,14 @@
--- Facts on lists: members by their number, and the members up to the first that fails.
+-- Facts on lists: members by their number, and how many pass before the first that fails.
 use Prim.Native.Nat.{ℕ, zero, suc, _<_}
 use native.Mathlib.Nat.{le-of-suc-le-suc, not-suc-le-zero}
 use native.Mathlib.Omega.{arith}
 use mathlib.Core.Path.{_≡_, refl, sym, _∙_, ap, subst}
 use mathlib.Core.Logic.{⊎-elim}
 use mathlib.Core.Bool.{Bool, true, false, cond}
-use mathlib.Core.List.{List, [], _∷_, _++_, List·Memᴰ as Mem, List·Memᴰ·head as head, List·Memᴰ·tail as tail, List·Memᴰ·cases-cons as mem-cons, List·Memᴰ·not-nil as mem-nil}
-use lib.Dec.{T, ltb}
-use lib.ListN.{length, take, drop, getD, replicate}
+use mathlib.Core.List.{List, [], _∷_, List·Memᴰ as Mem, List·Memᴰ·cases-cons as mem-cons, List·Memᴰ·not-nil as mem-nil}
+use lib.Dec.{T}
+use lib.ListN.{length, take, drop, getD}
 use Rattle.model.specs.Lists.{each, whilst}
-use Rattle.model.specs.Laws.Tests.{cond-yes}
 use Rattle.model.specs.Laws.Orders.{Ordered, order-cases, numbers}
 use Rattle.model.specs.Laws.Sorted.{Asc, asc-head, asc-tail}
 pub use Rattle.table.specs.Laws.Places.{getD-mem}
@@ -21,16 +20,6 @@ module _ {A : Type 0} where
   mem-getD {a} (x ∷ l) d m =
       ⊎-elim (λ e. (0, omega arith, sym e))
       (λ k. let r : (i : ℕ) × (i < length l) × (getD l i d ≡ a) = mem-getD l d k in (suc (r .0), let h = r .1 in omega arith, r .2)) (mem-cons m)
-
-  -- The number of a member up to the first that fails is its number in the list.
-  pub whilst-at : (p : A → Bool) (l : List A) (i : ℕ) (d : A) → i < length (whilst p l) → getD (whilst p l) i d ≡ getD l i d
-  whilst-at p [] i d h = refl
-  whilst-at p (x ∷ l) i d h = go (p x) i h (λ j k. whilst-at p l j d k)
-    where
-      go : (b : Bool) (j : ℕ) → j < length (cond b (x ∷ whilst p l) []) → ((k : ℕ) → k < length (whilst p l) → getD (whilst p l) k d ≡ getD l k d) → getD (cond b (x ∷ whilst p l) []) j d ≡ getD (x ∷ l) j d
-      go true zero h rec = refl
-      go true (suc j) h rec = rec j (le-of-suc-le-suc h)
-      go false j h rec = absurd (not-suc-le-zero h)
 
   -- If k members pass and the next fails, k members are up to the first that fails.
   pub whilst-stop : (p : A → Bool) (l : List A) (k : ℕ) (d : A) → k < length l → ((j : ℕ) → j < k → p (getD l j d) ≡ true) → p (getD l k d) ≡ false → k ≡ length (whilst p l)
@@ -66,12 +55,6 @@ module _ {A B : Type 0} (f : A → B) where
   each-drop zero l = refl
   each-drop (suc i) [] = refl
   each-drop (suc i) (x ∷ l) = each-drop i l
-
--- Numbers above zero with zeros behind them: the numbers are up to the first zero.
-pub whilst-numbers : (l : List ℕ) (m : ℕ) → ((a : ℕ) → Mem a l → T (ltb 0 a)) → whilst (ltb 0) (l ++ replicate m 0) ≡ l
-whilst-numbers [] zero f = refl
-whilst-numbers [] (suc m) f = refl
-whilst-numbers (x ∷ l) m f = cond-yes (ltb 0 x) _ _ (f x (head refl)) ∙ ap (λ k. x ∷ k) (whilst-numbers l m (λ a k. f a (tail k)))
 
 module _ {K : Type 0} {eq lt : K → K → Bool} (laws : Ordered eq lt) where
   -- In an ascending list a lower number has a lesser member.

@@ -1,89 +1,114 @@
--- The words of a row's list by their number.
-use Prim.Native.Nat.{ℕ, zero, suc, _+_, _*_, _≤_, _<_}
+-- The set bits of a row's mask, one after the other.
+use Prim.Native.Nat.{ℕ, zero, suc, _+_, _≤_, _<_}
+use native.Mathlib.Nat.{add-zero, le-of-suc-le-suc, not-suc-le-zero}
+use native.Mathlib.Numerals.{add-one}
 use native.Mathlib.Omega.{arith}
-use mathlib.Core.Path.{_≡_, refl, _∙_, ap}
-use mathlib.Core.Bool.{true}
-use mathlib.Core.List.{List, _∷_}
-use borrow.Author.Tests.{lt-ltb, le-ltb}
-use lib.Dec.{ltb}
-use lib.ListN.{length, take, drop, getD, length-drop}
-use lib.Seq.{getD-take, getD-drop, length-take-le}
+use mathlib.Core.Path.{_≡_, refl, sym, _∙_, ap}
+use mathlib.Core.Bool.{Bool, true, false, cond}
+use mathlib.Core.List.{List, [], _∷_, _++_}
+use lib.ListN.{length, take, drop, getD, length-append, take-append-drop, drop-of-length-le}
+use lib.Seq.{drop-cons, take-all}
+use Rattle.model.specs.Lists.{keep, each, count}
 use Rattle.model.specs.Cells.{Cell}
-use Rattle.model.specs.Laws.Members.{each-length, whilst-shorter}
-use Rattle.layout.specs.Rows.{neighbourOf}
-use Rattle.map.specs.Rows.{rowCell, rowWords, rowNumbers, rowList, rowFor, onward}
-use Rattle.map.specs.Laws.Lines.{each-at, whilst-at, whilst-stop, whilst-full}
+use Rattle.model.specs.Masks.{bit}
+use Rattle.model.specs.Laws.Members.{keep-append, each-append, each-length, count-length}
+use Rattle.map.specs.Rows.{rowCell, rowMask, rowNear, setOf, rowList, rowFor, onwardFrom, onward}
+use Rattle.map.specs.Laws.Walking.{keep-next, keep-past}
 
--- The rows that row i leads to are as many as the numbers of its list.
-pub onward-length : (s : List ℕ) (n i : ℕ) → length (onward s n i) ≡ length (rowNumbers s i)
-unfolding onward
-onward-length s n i = each-length (λ w. rowFor s n (neighbourOf (rowCell s i) w)) (rowNumbers s i)
+-- The number at a place of the numbers from a on.
+count-at : (a n k d : ℕ) → k < n → getD (count a n) k d ≡ a + k
+count-at a zero k d h = absurd (not-suc-le-zero h)
+count-at a (suc n) zero d h = sym (add-zero a)
+count-at a (suc n) (suc k) d h = let e : suc a + k ≡ a + suc k = omega arith in count-at (suc a) n k d (le-of-suc-le-suc h) ∙ e
 
--- The list of row i is as long as its numbers.
-pub list-length : (s : List ℕ) (i : ℕ) → length (rowList s i) ≡ length (rowNumbers s i)
-unfolding rowList
-list-length s i = each-length (neighbourOf (rowCell s i)) (rowNumbers s i)
+pub count-there : (n k d : ℕ) → k < n → getD (count 0 n) k d ≡ k
+count-there n k d h = let e : 0 + k ≡ k = omega arith in count-at 0 n k d h ∙ e
 
-module _ (s : List ℕ) (i : ℕ) (h : 30 * i + 30 ≤ length s) where
-  words-long : length (rowWords s i) ≡ 26
-  unfolding rowWords
-  words-long =
-      let d = length-drop (30 * i) s in
-      let l : length (take 30 (drop (30 * i) s)) ≡ 30 = length-take-le 30 (drop (30 * i) s) (omega arith) in
-      omega (arith, length-drop 4 (take 30 (drop (30 * i) s)))
+-- The numbers from k on.
+count-next : (n k : ℕ) → k < n → drop k (count 0 n) ≡ k ∷ drop (k + 1) (count 0 n)
+count-next n k h =
+    drop-cons (count 0 n) k 0 (omega (arith, count-length 0 n))
+    ∙ (λ i. count-there n k 0 h i ∷ drop (sym (add-one k) i) (count 0 n))
 
-  word-at : (k : ℕ) → k < 26 → getD (rowWords s i) k 0 ≡ getD s (30 * i + 4 + k) 0
-  unfolding rowWords
-  word-at k g =
-      let e : 30 * i + (4 + k) ≡ 30 * i + 4 + k = omega arith in
-      getD-drop 4 (take 30 (drop (30 * i) s)) k 0
-      ∙ getD-take 30 (drop (30 * i) s) (4 + k) 0 (omega arith)
-      ∙ getD-drop (30 * i) s (4 + k) 0
-      ∙ ap (λ j. getD s j 0) e
+-- The first members that pass are no more than all that pass.
+kept-few : {A B : Type 0} (f : A → B) (p : A → Bool) (x : B) (k : ℕ) (l : List A) → length (x ∷ each f (keep p (take k l))) ≤ suc (length (each f (keep p l)))
+kept-few f p x k l =
+    omega (
+      arith,
+      each-length f (keep p (take k l)),
+      each-length f (keep p l),
+      ap (λ m. length (keep p m)) (take-append-drop k l),
+      ap length (keep-append p (take k l) (drop k l)),
+      length-append (keep p (take k l)) (keep p (drop k l)),
+    )
 
-  some : (k : ℕ) → k ≤ 26 → ((j : ℕ) → j < k → getD s (30 * i + 4 + j) 0 ≡ 0 → ⊥) → (j : ℕ) → j < k → ltb 0 (getD (rowWords s i) j 0) ≡ true
-  some k g f j l =
-      let e = word-at j (omega arith) in
-      let x : getD s (30 * i + 4 + j) 0 ≡ 0 → ⊥ = f j l in
-      lt-ltb 0 (getD (rowWords s i) j 0) (omega arith)
+module _ (s : List ℕ) (n i : ℕ) where
+  -- Before the first bit all are left.
+  pub onward-all : onwardFrom s n i 0 ≡ onward s n i
+  unfolding onwardFrom onward
+  onward-all = refl
 
-  -- The first zero ends the list.
-  pub len-stop : (k : ℕ) → k < 26 → ((j : ℕ) → j < k → getD s (30 * i + 4 + j) 0 ≡ 0 → ⊥) → getD s (30 * i + 4 + k) 0 ≡ 0 → k ≡ length (rowNumbers s i)
-  unfolding rowNumbers
-  len-stop k g f e =
-      let w = words-long in
-      let v = word-at k g in
-      whilst-stop (ltb 0) (rowWords s i) k 0 (omega arith) (some k (omega arith) f) (le-ltb 0 (getD (rowWords s i) k 0) (omega arith))
+  -- After the last none is.
+  pub onward-none : (k : ℕ) → 26 ≤ k → onwardFrom s n i k ≡ []
+  unfolding onwardFrom
+  onward-none k h = ap (λ l. each (λ j. rowFor s n (rowNear s i j)) (setOf s i l)) (drop-of-length-le (count 0 26) {i = k} h)
 
-  -- With no zero the list has all its words.
-  pub len-full : (k : ℕ) → k ≡ 26 → ((j : ℕ) → j < k → getD s (30 * i + 4 + j) 0 ≡ 0 → ⊥) → k ≡ length (rowNumbers s i)
-  unfolding rowNumbers
-  len-full k g f =
-      let w = words-long in
-      whilst-full (ltb 0) (rowWords s i) k 0 (omega arith) (some k (omega arith) f)
+  module _ (k : ℕ) (h : k < 26) where
+    rest : (b : Bool) → bit (rowMask s i) k ≡ b
+        → onwardFrom s n i k ≡ each (λ j. rowFor s n (rowNear s i j)) (cond b (k ∷ setOf s i (drop (k + 1) (count 0 26))) (setOf s i (drop (k + 1) (count 0 26))))
+    unfolding onwardFrom
+    rest b e =
+        ap (λ l. each (λ j. rowFor s n (rowNear s i j)) (setOf s i l)) (count-next 26 k h)
+        ∙ ap (λ t. each (λ j. rowFor s n (rowNear s i j)) (cond t (k ∷ setOf s i (drop (k + 1) (count 0 26))) (setOf s i (drop (k + 1) (count 0 26))))) e
 
-  -- A list has at most 26 numbers.
-  pub numbers-few : length (rowNumbers s i) ≤ 26
-  unfolding rowNumbers
-  numbers-few = let w = words-long in omega (arith, whilst-shorter (ltb 0) (rowWords s i))
+    -- A set bit leads to a row.
+    pub onward-yes : bit (rowMask s i) k ≡ true → onwardFrom s n i k ≡ rowFor s n (rowNear s i k) ∷ onwardFrom s n i (k + 1)
+    unfolding onwardFrom
+    onward-yes e = rest true e
 
-  -- The numbers are the words.
-  pub number-at : (k : ℕ) → k < length (rowNumbers s i) → getD (rowNumbers s i) k 0 ≡ getD s (30 * i + 4 + k) 0
-  unfolding rowNumbers
-  number-at k g = whilst-at (ltb 0) (rowWords s i) k 0 g ∙ word-at k (omega (arith, numbers-few))
+    -- A bit that is not set leads to none.
+    pub onward-no : bit (rowMask s i) k ≡ false → onwardFrom s n i k ≡ onwardFrom s n i (k + 1)
+    unfolding onwardFrom
+    onward-no e = rest false e
 
-  -- The rows that they lead to.
-  pub onward-at : (n k : ℕ) → k < length (rowNumbers s i) → getD (onward s n i) k 0 ≡ rowFor s n (neighbourOf (rowCell s i) (getD s (30 * i + 4 + k) 0))
-  unfolding onward
-  onward-at n k g =
-      each-at (λ w. rowFor s n (neighbourOf (rowCell s i) w)) (rowNumbers s i) k 0 0 g
-      ∙ ap (λ w. rowFor s n (neighbourOf (rowCell s i) w)) (number-at k g)
+-- The cell of row i and those that its first k bits tell of.
+unfoldable pub nearUpTo : List ℕ → ℕ → ℕ → List Cell
+nearUpTo s i k = rowCell s i ∷ each (rowNear s i) (setOf s i (take k (count 0 26)))
 
-  -- The list of row i by its numbers, from 1 on.
-  pub near-at : (k : ℕ) (d : Cell) → (k ≡ 0 → ⊥) → k ≤ length (rowNumbers s i) → getD (rowCell s i ∷ rowList s i) k d ≡ neighbourOf (rowCell s i) (getD s (30 * i + 3 + k) 0)
-  unfolding rowList
-  near-at zero d z g = absurd (z refl)
-  near-at (suc k) d z g =
-      let e : 30 * i + 4 + k ≡ 30 * i + 3 + suc k = omega arith in
-      each-at (neighbourOf (rowCell s i)) (rowNumbers s i) k 0 d g
-      ∙ ap (neighbourOf (rowCell s i)) (number-at k g ∙ ap (λ j. getD s j 0) e)
+module _ (s : List ℕ) (i : ℕ) where
+  -- No bit.
+  pub near-none : nearUpTo s i 0 ≡ rowCell s i ∷ []
+  unfolding nearUpTo
+  near-none = refl
+
+  -- The cell of the row comes first.
+  pub near-first : (k : ℕ) → (r : List Cell) × (nearUpTo s i k ≡ rowCell s i ∷ r)
+  unfolding nearUpTo
+  near-first k = (each (rowNear s i) (setOf s i (take k (count 0 26))), refl)
+
+  -- All bits.
+  pub near-all : (k : ℕ) → 26 ≤ k → nearUpTo s i k ≡ rowCell s i ∷ rowList s i
+  unfolding nearUpTo rowList
+  near-all k h = ap (λ l. rowCell s i ∷ each (rowNear s i) (setOf s i l)) (take-all k (count 0 26) h)
+
+  -- There are no more than in all.
+  pub near-few : (k : ℕ) → length (nearUpTo s i k) ≤ suc (length (rowList s i))
+  unfolding nearUpTo rowList
+  near-few k = kept-few (rowNear s i) (bit (rowMask s i)) (rowCell s i) k (count 0 26)
+
+  module _ (k : ℕ) (h : k < 26) where
+    here : getD (count 0 26) k 0 ≡ k
+    here = count-there 26 k 0 h
+
+    -- A set bit.
+    pub near-yes : bit (rowMask s i) k ≡ true → nearUpTo s i (k + 1) ≡ nearUpTo s i k ++ (rowNear s i k ∷ [])
+    unfolding nearUpTo
+    near-yes e =
+        ap (λ l. rowCell s i ∷ each (rowNear s i) l) (keep-next (count 0 26) k 0 h (bit (rowMask s i)) (ap (bit (rowMask s i)) here ∙ e))
+        ∙ ap (λ l. rowCell s i ∷ l) (each-append (rowNear s i) (setOf s i (take k (count 0 26))) (getD (count 0 26) k 0 ∷ []))
+        ∙ ap (λ j. rowCell s i ∷ (each (rowNear s i) (setOf s i (take k (count 0 26))) ++ (rowNear s i j ∷ []))) here
+
+    -- A bit that is not set.
+    pub near-no : bit (rowMask s i) k ≡ false → nearUpTo s i (k + 1) ≡ nearUpTo s i k
+    unfolding nearUpTo
+    near-no e = ap (λ l. rowCell s i ∷ each (rowNear s i) l) (keep-past (count 0 26) k 0 h (bit (rowMask s i)) (ap (bit (rowMask s i)) here ∙ e))

@@ -6,7 +6,7 @@ use mathlib.Core.List.{List, [], _∷_, List·Memᴰ as Mem}
 use lib.ListN.{length, take}
 use lib.Seq.{take-take}
 use Rattle.model.specs.Lists.{has, whilst, each}
-use Rattle.model.specs.Cells.{Cell, same}
+use Rattle.model.specs.Cells.{Cell, same, touch26}
 use Rattle.model.specs.Occupancy.{Occupancy, occupied}
 use Rattle.model.specs.Flood.{wholeFlood}
 use Rattle.model.specs.Laws.Tests.{cond-yes}
@@ -18,11 +18,11 @@ use Rattle.map.specs.Answers.{cellsOfRows}
 use Rattle.map.specs.Laws.Lines.{each-take}
 
 -- The whole flood of an occupied cell is the flood from it.
-pub flood-whole : (o : Occupancy) (c : Cell) → Mem c (occupied o) → wholeFlood o c ≡ floodFrom (o .lists) (length (o .lists)) c
+pub flood-whole : (o : Occupancy) (c : Cell) → Mem c (occupied o) → wholeFlood touch26 o c ≡ floodFrom (o .masks) (length (occupied o)) c
 flood-whole o c m = cond-yes (has same (occupied o) c) _ _ (has-of cells m)
 
 -- The cells of the first rows that are queued are the first of the flood.
-pub rows-front : {words : List ℕ} {n seed label : ℕ} {marks queue : List ℕ} {r : ℕ} {marks′ queue′ : List ℕ} {t : List (Cell × List Cell)}
+pub rows-front : {words : List ℕ} {n seed label : ℕ} {marks queue : List ℕ} {r : ℕ} {marks′ queue′ : List ℕ} {t : List (Cell × ℕ)}
     → Flooded words n seed label marks queue r marks′ queue′ t → (m : ℕ) → m ≤ r → cellsOfRows words queue′ m ≡ take m (floodFrom t n (rowCell words seed))
 rows-front {words} {r = r} {queue′ = queue′} d m h =
     ap (each (rowCell words)) (sym (take-take m r queue′ h)) ∙ each-take (rowCell words) m (take r queue′) ∙ ap (take m) (d .order)

@@ -1,85 +1,54 @@
 -- The tables after a cell opens or closes.
-use Prim.Native.Nat.{ℕ, _+_, _-_, _≤_, _<_}
+use Prim.Native.Nat.{ℕ}
 use mathlib.Core.Path.{_≡_, refl, sym, ap, _∙_}
 use mathlib.Core.Bool.{Bool, true, false, cond, not}
-use mathlib.Core.Logic.{⊎-elim}
-use mathlib.Core.List.{List, [], _∷_, _++_, List·Memᴰ as Mem, List·Memᴰ·cases-cons as mem-cons}
-use lib.ListN.{length}
+use mathlib.Core.List.{List, [], _∷_}
 use Rattle.component.specs.Order.{same, below}
 use Rattle.component.specs.declared.Cell.{Cell}
 use Rattle.component.specs.Adjacent.{hasRoom}
 use Rattle.component.specs.Touch.{touches}
-use Rattle.component.specs.Laws.Touch.{touches-flip}
-use Rattle.model.specs.Lists.{keep, has, each, add, without, keys, put, dropKey, change}
-use Rattle.model.specs.Laws.Tests.{T-false, true-of}
+use Rattle.model.specs.Lists.{has, each, add, without, keys, put, dropKey, change}
+use Rattle.model.specs.Cells.{all26, touch26}
+use Rattle.model.specs.Laws.Tests.{T-false, same-test}
 use Rattle.model.specs.Laws.Orders.{Ordered, cells}
-use Rattle.model.specs.Laws.Members.{keep-each, each-each, each-same, once-cons}
-use Rattle.model.specs.Laws.Sorted.{Asc}
-use Rattle.model.specs.Laws.Occupied.{Exact}
-use Rattle.layout.specs.Rows.{numberOf, neighbourOf, listWords, cellRow, netRow}
-use Rattle.map.specs.Told.{padded, revised, told, noted}
-use Rattle.map.specs.Laws.Each.{keys-each, change-each}
-use Rattle.map.specs.Laws.Near.{told-cell, few, noted-touching}
-use Rattle.map.specs.Laws.Lists.{list-padded, list-joined, list-left}
+use Rattle.model.specs.Laws.Members.{keep-each, each-each, each-same}
+use Rattle.model.specs.Laws.Touching.{touching-26, touch26-touches}
+use Rattle.model.specs.Places.{slot}
+use Rattle.model.specs.Laws.Slots.{joined, left}
+use Rattle.layout.specs.Rows.{neighbourOf, idRow, netRow}
+use Rattle.map.specs.Told.{revisedMask, revised, told}
+use Rattle.map.specs.Laws.Each.{change-each}
+use Rattle.map.specs.Laws.Near.{told-cell}
 
-module _ (touch : Cell → Cell → Bool) (is : (a b : Cell) → touch a b ≡ touches a b) (among : List Cell) where
-  -- The cells of the rows have room, and their lists are exact.
-  pub record Rows (t : List (Cell × List Cell)) : Type 0 where
-    pub room : (d : Cell) (l : List Cell) → Mem (d, l) t → hasRoom 1 d ≡ true
-    pub exact : (d : Cell) (l : List Cell) → Mem (d, l) t → Exact touch among d l
+-- What the mask of d becomes when c joins or leaves.
+abbrev pub ruleOf : Bool → Cell → Cell → ℕ → ℕ
+ruleOf true c d m = joined all26 c d m
+ruleOf false c d m = left all26 c d m
 
-  module _ (d : Cell) (l : List Cell) (room : hasRoom 1 d ≡ true) (x : Exact touch among d l) where
-    -- The cells of a list touch its cell.
-    pub row-touching : (a : Cell) → Mem a l → touches d a ≡ true
-    row-touching a m = sym (is d a) ∙ true-of (touch d a) (x .only m .1)
+rule-is : (joins : Bool) (c d : Cell) (m : ℕ) → cond (touch26 d c) (revisedMask joins (slot d c) m) m ≡ ruleOf joins c d m
+unfolding revisedMask
+rule-is true c d m = refl
+rule-is false c d m = refl
 
-    -- A list has at most 26 cells.
-    pub row-few : length l ≤ 26
-    row-few = few d room l (x .once) row-touching
+-- The word of a row that is revised or not.
+word-is : (joins b : Bool) (w m : ℕ) → cond b (revised joins w (m ∷ [])) (m ∷ []) ≡ cond b (revisedMask joins w m) m ∷ []
+unfolding revised
+word-is joins true w m = refl
+word-is joins false w m = refl
 
-    -- A list has fewer where a cell that is not among the occupied touches.
-    row-space : (c : Cell) → (Mem c among → ⊥) → touches d c ≡ true → length l < 26
-    row-space c n t =
-        few d room (c ∷ l) (once-cons (λ m. n (x .only m .0)) (x .once)) both
-      where
-        both : (a : Cell) → Mem a (c ∷ l) → touches d a ≡ true
-        both a m = ⊎-elim (λ e. ap (touches d) e ∙ t) (λ k. row-touching a k) (mem-cons m)
+-- The masks once c has joined those of its neighbours, or left them.
+pub masks-told : (joins : Bool) (c : Cell) → hasRoom 1 c ≡ true → (t : List (Cell × ℕ)) → change (told joins (neighbourOf c) 26) (each idRow t) ≡ each idRow (change (ruleOf joins c) t)
+masks-told joins c room t = change-each (λ d m. m ∷ []) (told joins (neighbourOf c) 26) (ruleOf joins c) t (λ p q. one (p .0) (p .1))
+  where
+    turned : (d : Cell) → touches c d ≡ touch26 d c
+    turned d = sym (touch26-touches c d) ∙ same-test (touch26 c d) (touch26 d c) (touching-26 .flip c d) (touching-26 .flip d c)
 
-  module _ (c : Cell) (room : hasRoom 1 c ≡ true) (t : List (Cell × List Cell)) (rows : Rows t) where
-    -- The lists once c has joined those of its neighbours.
-    pub lists-joined : (Mem c among → ⊥) → change (told true (neighbourOf c) 26) (each cellRow t) ≡ each cellRow (change (λ d l. cond (touch c d) (l ++ (c ∷ [])) l) t)
-    lists-joined new =
-        change-each listWords (told true (neighbourOf c) 26) (λ d l. cond (touch c d) (l ++ (c ∷ [])) l) t
-        (λ p m. one (p .0) (p .1) (rows .room (p .0) (p .1) m) (rows .exact (p .0) (p .1) m))
-      where
-        one : (d : Cell) (l : List Cell) → hasRoom 1 d ≡ true → Exact touch among d l → told true (neighbourOf c) 26 d (listWords d l) ≡ listWords d (cond (touch c d) (l ++ (c ∷ [])) l)
-        one d l r x = told-cell c room true d (listWords d l) ∙ go (touches c d) refl ∙ ap (λ (b : Bool). listWords d (cond b (l ++ (c ∷ [])) l)) (sym (is c d))
-          where
-            go : (b : Bool) → touches c d ≡ b → cond b (revised true (numberOf d c) (listWords d l)) (listWords d l) ≡ listWords d (cond b (l ++ (c ∷ [])) l)
-            go true e = list-joined d l (row-touching d l r x) c (row-space d l r x c new (touches-flip c d e))
-            go false e = refl
-
-    -- The lists once c has left those of its neighbours.
-    pub lists-left : change (told false (neighbourOf c) 26) (each cellRow t) ≡ each cellRow (change (λ d l. cond (touch c d) (without same c l) l) t)
-    lists-left =
-        change-each listWords (told false (neighbourOf c) 26) (λ d l. cond (touch c d) (without same c l) l) t
-        (λ p m. one (p .0) (p .1) (rows .room (p .0) (p .1) m) (rows .exact (p .0) (p .1) m))
-      where
-        one : (d : Cell) (l : List Cell) → hasRoom 1 d ≡ true → Exact touch among d l → told false (neighbourOf c) 26 d (listWords d l) ≡ listWords d (cond (touch c d) (without same c l) l)
-        one d l r x = told-cell c room false d (listWords d l) ∙ go (touches c d) refl ∙ ap (λ (b : Bool). listWords d (cond b (without same c l) l)) (sym (is c d))
-          where
-            go : (b : Bool) → touches c d ≡ b → cond b (revised false (numberOf d c) (listWords d l)) (listWords d l) ≡ listWords d (cond b (without same c l) l)
-            go true e = list-left d l (row-touching d l r x) c r (touches-flip c d e) (row-few d l r x)
-            go false e = refl
-
--- The row of a cell and its noted numbers.
-module _ (c : Cell) (room : hasRoom 1 c ≡ true) (touch : Cell → Cell → Bool) (is : (a b : Cell) → touch a b ≡ touches a b) (t : List (Cell × List Cell)) (asc : Asc below (keys t)) where
-  -- What is noted are the words of the list of the touching cells.
-  pub noted-list : (u : List (Cell × List ℕ)) → u ≡ each cellRow t → padded 26 (noted (keys u) (neighbourOf c) 26) ≡ listWords c (keep (touch c) (keys t))
-  noted-list u e =
-      ap (λ (k : List Cell). padded 26 (noted k (neighbourOf c) 26)) (ap keys e ∙ keys-each listWords t)
-      ∙ ap (padded 26) (noted-touching c room touch is (keys t) asc)
-      ∙ list-padded c (keep (touch c) (keys t))
+    one : (d : Cell) (m : ℕ) → told joins (neighbourOf c) 26 d (m ∷ []) ≡ ruleOf joins c d m ∷ []
+    one d m =
+        told-cell c room joins d (m ∷ [])
+        ∙ word-is joins (touches c d) (slot d c) m
+        ∙ ap (λ (b : Bool). cond b (revisedMask joins (slot d c) m) m ∷ []) (turned d)
+        ∙ ap (λ (n : ℕ). n ∷ []) (rule-is joins c d m)
 
 module _ {eq lt : Cell → Cell → Bool} (laws : Ordered eq lt) (c : Cell) where
   -- A cell that is put into a net list is added.

@@ -13,7 +13,6 @@ use Rattle.model.specs.Laws.Orders.{cells}
 use Rattle.model.specs.Laws.Members.{without-in, without-out}
 use Rattle.model.specs.Laws.Sorted.{Asc, keep-asc, add-asc, add-out, add-in, add-self}
 use Rattle.model.specs.Laws.Tables.{At, Free}
-use Rattle.model.specs.Laws.Touching.{touching-26}
 use Rattle.model.specs.Laws.Occupied.{Sound, enter-sound, leave-sound, occupied-open, occupied-close}
 use Rattle.model.specs.Laws.Net.{Inside, pass-inside}
 use Rattle.map.specs.Held.{Placed}
@@ -71,7 +70,7 @@ module _ (o : Occupancy) (ok : Placed o) (e : ℕ) (c : Cell) where
   -- An entity enters.
   pub enter-placed : Free eqb (o .entities) e → cellInRange c ≡ true → Placed (enter touch26 e c o)
   enter-placed n r =
-      placed-of (enter touch26 e c o) (enter-sound touch26 (touching-26 .flip) (touching-26 .apart) e c o (ok .sound) n)
+      placed-of (enter touch26 e c o) (enter-sound touch26 e c o (ok .sound) n)
       (pass-inside touch26 cellInRange o (enters e c) (ok .inside) n (T-true r)) (go (standsIn (o .entities) c))
     where
       go : (b : Bool) → Nets (withEntities (put ltb e c (o .entities)) (cond b o (openCell touch26 c o)))
@@ -81,7 +80,7 @@ module _ (o : Occupancy) (ok : Placed o) (e : ℕ) (c : Cell) where
   -- An entity leaves.
   pub leave-placed : At eqb (o .entities) e c → Placed (leave touch26 e c o)
   leave-placed p =
-      placed-of (leave touch26 e c o) (leave-sound touch26 (touching-26 .flip) (touching-26 .apart) e c o (ok .sound) p)
+      placed-of (leave touch26 e c o) (leave-sound touch26 e c o (ok .sound) p)
       (pass-inside touch26 cellInRange o (leaves e c) (ok .inside) p tt) (go (standsIn (dropKey eqb e (o .entities)) c))
     where
       go : (b : Bool) → Nets (withEntities (dropKey eqb e (o .entities)) (cond b o (closeCell touch26 c o)))

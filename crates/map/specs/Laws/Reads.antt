@@ -1,211 +1,175 @@
 -- What is read of words in which a table of occupied cells stands is that table.
-use Prim.Native.Nat.{ℕ, _+_, _-_, _*_, _≤_, _<_}
+use Prim.Native.Nat.{ℕ, _+_, _*_, _≤_, _<_}
 use native.Mathlib.Nat.{add-zero}
 use native.Mathlib.Omega.{arith}
 use mathlib.Core.Path.{_≡_, refl, sym, _∙_, ap, subst}
-use mathlib.Core.Logic.{⊎-elim}
 use mathlib.Core.Bool.{true}
-use mathlib.Core.List.{List, [], _∷_, List·Memᴰ as Mem, List·Memᴰ·head as head, List·Memᴰ·not-nil as mem-nil, Memᴰ·cast as mem-cast}
-use lib.Dec.{T, eqb, ltb, lt→ltb}
-use lib.ListN.{length, take, drop, getD, replicate, length-append, length-replicate}
+use mathlib.Core.List.{List, List·Memᴰ as Mem, Memᴰ·cast as mem-cast}
+use lib.ListN.{length, take, drop, getD}
 use lib.Seq.{getD-drop}
-use Rattle.component.specs.Adjacent.{hasRoom}
-use Rattle.component.specs.Laws.Adjacent.{room-above}
-use Rattle.component.specs.Around.{around}
-use Rattle.component.specs.Laws.Neighbours.{around-one, around-complete}
-use Rattle.model.specs.Lists.{each, whilst, keys, isAscending}
-use Rattle.model.specs.Cells.{Cell, same, below, touch26}
-use Rattle.model.specs.Flood.{orEmpty, listOf}
-use Rattle.model.specs.Laws.Tests.{true-of, eqb-of}
+use Rattle.model.specs.Lists.{each, keep, keys, isAscending, count}
+use Rattle.model.specs.Cells.{Cell, below, all26, touch26, shift}
+use Rattle.model.specs.Masks.{bit, touching, leadsTo, maskOf, masked}
+use Rattle.model.specs.Laws.Tests.{T-true, true-of}
 use Rattle.model.specs.Laws.Orders.{cells}
-use Rattle.model.specs.Laws.Members.{all-in, each-out, each-each, each-same, each-length, key-in, mem-or, Once, once-nil, once-each, once-shorter}
-use Rattle.model.specs.Laws.Sorted.{Asc, isAscending-in}
-use Rattle.model.specs.Laws.Tables.{In, at-mem, key-at, free-key, of-free, asc-mem-at}
-use Rattle.model.specs.Laws.Occupied.{Exact}
+use Rattle.model.specs.Laws.Members.{keep-in, keep-out, each-in, each-out, each-each, each-same, each-length, key-in, count-in, Once, once-keep, once-each}
+use Rattle.model.specs.Laws.Sorted.{Asc, isAscending-in, asc-once}
+use Rattle.model.specs.Places.{offsetAt}
+use Rattle.model.specs.Laws.Slots.{mask-bit}
+use Rattle.model.specs.Theorems.MasksExact.{mask-cells}
 use Rattle.table.specs.declared.Place.{Place}
 use Rattle.table.specs.declared.Place.the-variants.{Found, Missing}
-use Rattle.table.specs.Rows.{cell, entryOf, areWide, placed, placeOf, table4, isTable4, image4}
+use Rattle.table.specs.Rows.{cell, entryOf, rowsOf, areWide, placed, placeOf, table4, isTable4, image4}
 use Rattle.table.specs.Laws.Kinds.{cell-lawful}
-use Rattle.table.specs.Laws.Words.{row-at, entry-at, cell-at}
+use Rattle.table.specs.Laws.Words.{rest-at, entry-at, cell-at}
 use Rattle.table.specs.Laws.Places.{missing-key}
 use Rattle.table.specs.Laws.Answers.{found-below, found-is}
-use Rattle.table.specs.Laws.Images.{table-of-image, image-length, image-is-table}
-use Rattle.layout.specs.Rows.{numberOf, neighbourOf, listWords, listCells, cellRow, cellOf, cellsImage, cellsIn}
-use Rattle.map.specs.Rows.{rowCell, rowWords, rowNumbers, rowList, rowFor, onward}
+use Rattle.table.specs.Laws.Images.{table-of-image, image-is-table}
+use Rattle.layout.specs.Rows.{idRow, cellsImage, cellsIn}
+use Rattle.layout.specs.Laws.Rows.{ids-wide}
+use Rattle.layout.specs.Laws.Images.{cells-laws}
+use Rattle.map.specs.Rows.{rowCell, rowMask, rowNear, rowList, rowFor, onward}
 use Rattle.map.specs.Standing.{Cells}
-use Rattle.map.specs.Laws.Lines.{getD-mem, each-at, whilst-numbers, asc-index}
-use Rattle.map.specs.Laws.Numbers.{touch-near, number-some, number-back}
+use Rattle.map.specs.Laws.Lines.{getD-mem, each-at, asc-index}
 
--- No cell, and no list.
-abbrev noRow : Cell × List Cell
-noRow = (record { grid = 0; z = 0; y = 0; x = 0 }, [])
+-- No cell, and no mask.
+abbrev noRow : Cell × ℕ
+noRow = (record { grid = 0; z = 0; y = 0; x = 0 }, 0)
 
-module _ (t : List (Cell × List Cell)) (exact : (c : Cell) (l : List Cell) → Mem (c, l) t → Exact touch26 (keys t) c l)
-    (room : (c : Cell) (l : List Cell) (d : Cell) → Mem (c, l) t → Mem d l → hasRoom 1 c ≡ true) where
-  -- A list has at most 26 cells.
-  pub list-short : (c : Cell) (l : List Cell) → Mem (c, l) t → length l ≤ 26
-  list-short c [] m = omega arith
-  list-short c (x ∷ l) m =
-      let a = room-above 1 c (room c (x ∷ l) x m (head refl)) in
-      let e = exact c (x ∷ l) m in
-      let h = once-shorter (e .once) (around 1 c) (λ d j. let r = touch-near c d (e .only j .1) in around-complete 1 c d a (r .0) (r .1)) in
-      omega (arith, around-one c)
+-- The words of a table of ascending cells with exact masks hold it.
+pub cells-of : (t : List (Cell × ℕ)) → t ≡ masked touch26 (keys t) → (len : ℕ) → Asc below (keys t) → 5 * length t ≤ len → Cells (cellsImage len t) (length t) t
+cells-of t x len s h =
+    let e : length (cellsImage len t) ≡ len = cells-laws .long len t (λ a m. tt) h in
+    record { image = ap (λ m. cellsImage m t) (sym e); number = refl; fits = omega arith; asc = s; exact = x }
 
-  row-long : (q : Cell × List Cell) → Mem q t → 4 + length (listWords (q .0) (q .1)) ≡ 30
-  row-long q m =
-      let h = list-short (q .0) (q .1) m in
-      omega (arith, length-append (each (numberOf (q .0)) (q .1)) (replicate (26 - length (q .1)) 0), each-length (numberOf (q .0)) (q .1), length-replicate {A = ℕ} (26 - length (q .1)) 0)
-
-  -- Every row has 30 words.
-  pub rows-wide : areWide cell 30 (each cellRow t) ≡ true
-  rows-wide =
-      true-of (areWide cell 30 (each cellRow t))
-      (all-in (λ (p : Cell × List ℕ). eqb (4 + length (p .1)) 30) (each cellRow t)
-      (λ a m. let r = each-out cellRow t m in subst (λ (p : Cell × List ℕ). T (eqb (4 + length (p .1)) 30)) (sym (r .2)) (eqb-of _ 30 (row-long (r .0) (r .1)))))
-
-  -- The words of such a table hold it.
-  pub cells-of : (len : ℕ) → Asc below (keys t) → 30 * length t ≤ len → Cells (cellsImage len t) (length t) t
-  unfolding cellsImage
-  cells-of len s h =
-      let n : length (each cellRow t) ≡ length t = each-length cellRow t in
-      let e : length (image4 len (each cellRow t)) ≡ len = image-length cell cell-lawful 30 len (each cellRow t) rows-wide (omega arith) in
-      record { image = ap (λ m. image4 m (each cellRow t)) (sym e); number = refl; fits = omega arith; asc = s; exact = exact; room = room }
-
-module _ (words : List ℕ) (n : ℕ) (t : List (Cell × List Cell)) (k : Cells words n t) where
-  wide : areWide cell 30 (each cellRow t) ≡ true
-  wide = rows-wide t (k .exact) (k .room)
-
-  written : words ≡ image4 (length words) (each cellRow t)
+module _ (words : List ℕ) (n : ℕ) (t : List (Cell × ℕ)) (k : Cells words n t) where
+  written : words ≡ image4 (length words) (each idRow t)
   unfolding cellsImage
   written = k .image
 
-  size : n ≡ length (each cellRow t)
-  size = k .number ∙ sym (each-length cellRow t)
+  size : n ≡ length (each idRow t)
+  size = k .number ∙ sym (each-length idRow t)
 
   -- The rows are those of the table.
-  pub cells-rows : table4 30 n words ≡ each cellRow t
-  cells-rows = (λ i. table4 30 (size i) (written i)) ∙ table-of-image cell cell-lawful 30 (length words) (each cellRow t) wide
+  pub cells-rows : table4 5 n words ≡ each idRow t
+  cells-rows = (λ i. table4 5 (size i) (written i)) ∙ table-of-image cell cell-lawful 5 (length words) (each idRow t) (ids-wide t)
 
   -- The keys are the occupied cells.
-  pub cells-keys : keys (table4 30 n words) ≡ keys t
-  cells-keys = ap keys cells-rows ∙ each-each (λ (p : Cell × List ℕ). p .0) cellRow t
+  pub cells-keys : keys (table4 5 n words) ≡ keys t
+  cells-keys = ap keys cells-rows ∙ each-each (λ (p : Cell × List ℕ). p .0) idRow t
 
   -- The words are a table's.
-  pub cells-table : isTable4 30 n words ≡ true
+  pub cells-table : isTable4 5 n words ≡ true
   cells-table =
-      (λ i. isTable4 30 (size i) (written i))
-      ∙ image-is-table cell cell-lawful 30 (length words) (each cellRow t) (omega arith) wide
-      ∙ ap (isAscending below) (each-each (λ (p : Cell × List ℕ). p .0) cellRow t)
+      (λ i. isTable4 5 (size i) (written i))
+      ∙ image-is-table cell cell-lawful 5 (length words) (each idRow t) (omega (arith, k .fits, size)) (ids-wide t)
+      ∙ ap (isAscending below) (each-each (λ (p : Cell × List ℕ). p .0) idRow t)
       ∙ true-of (isAscending below (keys t)) (isAscending-in (k .asc))
-
-  -- A list that is written is read again.
-  pub list-read : (c : Cell) (l : List Cell) → Mem (c, l) t → listCells c (listWords c l) ≡ l
-  list-read c l m =
-      let e = k .exact c l m in
-      ap (each (neighbourOf c)) (whilst-numbers (each (numberOf c) l) (26 - length l)
-      (λ a j. let r = each-out (numberOf c) l j in subst (λ v. T (ltb 0 v)) (sym (r .2)) (lt→ltb 0 (numberOf c (r .0)) (number-some c (r .0) (k .room c l (r .0) m (r .1)) (e .only (r .1) .1) .0))))
-      ∙ each-each (neighbourOf c) (numberOf c) l
-      ∙ each-same (λ d. neighbourOf c (numberOf c d)) l (λ d j. number-back c d (k .room c l d m j) (e .only j .1))
 
   -- The table that is read is the table.
   pub cells-read : cellsIn n words ≡ t
-  unfolding cellsIn
-  cells-read =
-      ap (each cellOf) cells-rows
-      ∙ each-each cellOf cellRow t
-      ∙ each-same (λ q. cellOf (cellRow q)) t (λ q m. λ i. (q .0, list-read (q .0) (q .1) m i))
+  cells-read = (λ i. cellsIn (k .number i) (k .image i)) ∙ cells-laws .read (length words) t (λ a m. tt)
 
   module _ (i : ℕ) (h : i < n) where
-    abbrev row : Cell × List Cell
+    abbrev row : Cell × ℕ
     row = getD t i noRow
 
     row-in : Mem row t
     row-in = getD-mem t i noRow (omega (arith, k .number))
 
-    row-is : getD (table4 30 n words) i (cellRow noRow) ≡ cellRow row
-    row-is = ap (λ (l : List (Cell × List ℕ)). getD l i (cellRow noRow)) cells-rows ∙ each-at cellRow t i noRow (cellRow noRow) (omega (arith, k .number))
+    row-is : getD (table4 5 n words) i (idRow noRow) ≡ idRow row
+    row-is = ap (λ (l : List (Cell × List ℕ)). getD l i (idRow noRow)) cells-rows ∙ each-at idRow t i noRow (idRow noRow) (omega (arith, k .number))
 
-    entry-is : getD (table4 30 n words) i (cellRow noRow) ≡ entryOf cell (take 30 (drop (30 * i) words))
+    entry-is : getD (table4 5 n words) i (idRow noRow) ≡ entryOf cell (getD (rowsOf 5 n words) i mathlib.Core.List.[])
     entry-is =
-        ap (λ (j : ℕ). getD (table4 30 n words) j (cellRow noRow)) (sym (add-zero i))
-        ∙ sym (getD-drop i (table4 30 n words) 0 (cellRow noRow))
-        ∙ ap (λ (l : List (Cell × List ℕ)). getD l 0 (cellRow noRow)) (entry-at cell 30 n words i h)
-        ∙ ap (entryOf cell) (row-at 30 n words i h)
+        ap (λ (j : ℕ). getD (table4 5 n words) j (idRow noRow)) (sym (add-zero i))
+        ∙ sym (getD-drop i (table4 5 n words) 0 (idRow noRow))
+        ∙ ap (λ (l : List (Cell × List ℕ)). getD l 0 (idRow noRow)) (entry-at cell 5 n words i h)
 
-    behind-is : rowWords words i ≡ listWords (row .0) (row .1)
-    unfolding rowWords
-    behind-is = ap (λ (p : Cell × List ℕ). p .1) (sym entry-is ∙ row-is)
+    word-is : rowMask words i ≡ row .1
+    unfolding rowMask
+    word-is = sym (rest-at 5 n words i 4 0 h (omega arith)) ∙ ap (λ (p : Cell × List ℕ). getD (p .1) 0 0) (sym entry-is ∙ row-is)
 
     -- The cell of row i is the table's.
     pub key-is : getD (keys t) i (noRow .0) ≡ rowCell words i
     unfolding rowCell
-    key-is = ap (λ (l : List Cell). getD l i (noRow .0)) (sym cells-keys) ∙ cell-at 30 n words (omega arith) i (noRow .0) h
+    key-is = ap (λ (l : List Cell). getD l i (noRow .0)) (sym cells-keys) ∙ cell-at 5 n words (omega arith) i (noRow .0) h
 
     cell-is : rowCell words i ≡ row .0
-    cell-is = sym key-is ∙ each-at (λ (p : Cell × List Cell). p .0) t i noRow (noRow .0) (omega (arith, k .number))
+    cell-is = sym key-is ∙ each-at (λ (p : Cell × ℕ). p .0) t i noRow (noRow .0) (omega (arith, k .number))
 
     -- The cell of a row is occupied.
     pub row-occupied : Mem (rowCell words i) (keys t)
     row-occupied = mem-cast cell-is (key-in row-in)
 
-    -- The list of row i is the list of its cell.
-    pub row-list : rowList words i ≡ listOf t (rowCell words i)
-    unfolding rowList rowNumbers
+    -- The mask of row i is that of its cell.
+    pub row-mask : rowMask words i ≡ maskOf touch26 (keys t) (rowCell words i)
+    row-mask =
+        let r = each-out (λ c. (c, maskOf touch26 (keys t) c)) (keys t) (subst (λ l. Mem row l) (k .exact) row-in) in
+        word-is ∙ ap (λ (p : Cell × ℕ). p .1) (r .2) ∙ ap (maskOf touch26 (keys t)) (sym (cell-is ∙ ap (λ (p : Cell × ℕ). p .0) (r .2)))
+
+    -- The cells that its set bits tell of are those that it touches, in cell order.
+    pub row-list : rowList words i ≡ touching touch26 (keys t) (rowCell words i)
+    unfolding rowList rowNear
     row-list =
-        (λ j. each (neighbourOf (cell-is j)) (whilst (ltb 0) (behind-is j)))
-        ∙ list-read (row .0) (row .1) row-in
-        ∙ sym (ap orEmpty (asc-mem-at cells t (k .asc) row-in .is))
-        ∙ ap (listOf t) (sym cell-is)
+        ap (λ m. each (λ j. shift (rowCell words i) (offsetAt j)) (keep (bit m) (count 0 26))) row-mask
+        ∙ mask-cells all26 (keys t) (rowCell words i) (k .asc)
+
+    -- A bit is set where it leads to one of them.
+    pub row-bit : (j : ℕ) → j < 26 → bit (rowMask words i) j ≡ leadsTo touch26 (keys (table4 5 n words)) (rowCell words i) (offsetAt j)
+    row-bit j g =
+        ap (λ m. bit m j) row-mask
+        ∙ mask-bit touch26 (keys t) (rowCell words i) j g
+        ∙ ap (λ l. leadsTo touch26 l (rowCell words i) (offsetAt j)) (sym cells-keys)
 
   -- A cell stands in one row.
   pub row-once : (i j : ℕ) → i < n → j < n → rowCell words i ≡ rowCell words j → i ≡ j
   row-once i j h g e =
-      let l : length (keys t) ≡ length t = each-length (λ (p : Cell × List Cell). p .0) t in
+      let l : length (keys t) ≡ length t = each-length (λ (p : Cell × ℕ). p .0) t in
       asc-index cells (keys t) i j (noRow .0) (k .asc) (omega (arith, k .number)) (omega (arith, k .number)) (key-is i h ∙ e ∙ sym (key-is j g))
 
   -- The row of an occupied cell is there, and has that cell.
   pub row-for : (d : Cell) → Mem d (keys t) → (rowFor words n d < n) × (rowCell words (rowFor words n d) ≡ d)
   unfolding rowFor
-  row-for d m = go (placeOf below (keys (table4 30 n words)) d) refl
+  row-for d m = go (placeOf below (keys (table4 5 n words)) d) refl
     where
-      go : (p : Place) → p ≡ placeOf below (keys (table4 30 n words)) d → (placed p < n) × (rowCell words (placed p) ≡ d)
+      go : (p : Place) → p ≡ placeOf below (keys (table4 5 n words)) d → (placed p < n) × (rowCell words (placed p) ≡ d)
       go (Found i) e =
-          let h = found-below cell cell-lawful 30 n words d i e in
-          (h, sym (key-is i h) ∙ ap (λ (l : List Cell). getD l i (noRow .0)) (sym cells-keys) ∙ found-is cell cell-lawful 30 n words d i (noRow .0) e)
-      go (Missing i) e = absurd (missing-key cells d (keys (table4 30 n words)) i (subst (Asc below) (sym cells-keys) (k .asc)) e (subst (λ l. Mem d l) (sym cells-keys) m))
+          let h = found-below cell cell-lawful 5 n words d i e in
+          (h, sym (key-is i h) ∙ ap (λ (l : List Cell). getD l i (noRow .0)) (sym cells-keys) ∙ found-is cell cell-lawful 5 n words d i (noRow .0) e)
+      go (Missing i) e = absurd (missing-key cells d (keys (table4 5 n words)) i (subst (Asc below) (sym cells-keys) (k .asc)) e (subst (λ l. Mem d l) (sym cells-keys) m))
 
-  -- The list of an occupied cell is exact.
-  pub lists-exact : {c : Cell} → Mem c (keys t) → Exact touch26 (keys t) c (listOf t c)
-  lists-exact {c} m =
-      let r : In same t c = key-at cells t m in
-      subst (λ x. Exact touch26 (keys t) c (orEmpty x)) (sym (r .1 .is)) (k .exact c (r .0) (at-mem cells t (r .1)))
+  -- No cell touches another twice.
+  pub touching-once : (c : Cell) → Once (touching touch26 (keys t) c)
+  touching-once c = once-keep (touch26 c) (keys t) (asc-once cells (k .asc))
 
-  lists-none : (c : Cell) → (Mem c (keys t) → ⊥) → listOf t c ≡ []
-  lists-none c out = ap orEmpty (of-free t c (free-key cells t out))
-
-  -- No list has a cell twice.
-  pub lists-once : (c : Cell) → Once (listOf t c)
-  lists-once c = ⊎-elim (λ m. lists-exact m .once) (λ out. subst Once (sym (lists-none c out)) once-nil) (mem-or cells c (keys t))
-
-  -- The cells of a list are occupied.
-  pub lists-in : (c d : Cell) → Mem d (listOf t c) → Mem d (keys t)
-  lists-in c d m = ⊎-elim (λ j. lists-exact j .only m .0) (λ out. absurd (mem-nil (subst (λ l. Mem d l) (lists-none c out) m))) (mem-or cells c (keys t))
+  -- The touching cells are occupied.
+  pub touching-in : (c d : Cell) → Mem d (touching touch26 (keys t) c) → Mem d (keys t)
+  touching-in c d m = keep-out (touch26 c) (keys t) m .0
 
   module _ (i : ℕ) (h : i < n) where
     list-in : (d : Cell) → Mem d (rowList words i) → Mem d (keys t)
-    list-in d m = lists-in (rowCell words i) d (subst (λ l. Mem d l) (row-list i h) m)
+    list-in d m = touching-in (rowCell words i) d (subst (λ l. Mem d l) (row-list i h) m)
 
     onward-list : onward words n i ≡ each (rowFor words n) (rowList words i)
     unfolding onward rowList
-    onward-list = sym (each-each (rowFor words n) (neighbourOf (rowCell words i)) (rowNumbers words i))
+    onward-list = sym (each-each (rowFor words n) (rowNear words i) (keep (bit (rowMask words i)) (count 0 26)))
 
-    -- The rows that row i leads to have the cells of its list.
-    pub onward-cells : each (rowCell words) (onward words n i) ≡ listOf t (rowCell words i)
+    -- The rows that row i leads to have the cells that it touches.
+    pub onward-cells : each (rowCell words) (onward words n i) ≡ touching touch26 (keys t) (rowCell words i)
     onward-cells =
         ap (each (rowCell words)) onward-list
         ∙ each-each (rowCell words) (rowFor words n) (rowList words i)
         ∙ each-same (λ d. rowCell words (rowFor words n d)) (rowList words i) (λ d m. row-for d (list-in d m) .1)
         ∙ row-list i h
+
+    -- The row that a set bit leads to is there.
+    pub row-lead : (j : ℕ) → j < 26 → bit (rowMask words i) j ≡ true → rowFor words n (rowNear words i j) < n
+    unfolding rowList
+    row-lead j g e =
+        let z : 0 ≤ j = omega arith in
+        let m : Mem j (count 0 26) = count-in 0 26 z g in
+        row-for (rowNear words i j) (list-in (rowNear words i j) (each-in (rowNear words i) (keep-in (bit (rowMask words i)) m (T-true e)))) .0
 
     -- They are there.
     pub onward-under : (j : ℕ) → Mem j (onward words n i) → j < n
@@ -219,4 +183,4 @@ module _ (words : List ℕ) (n : ℕ) (t : List (Cell × List Cell)) (k : Cells 
         subst Once (sym onward-list)
         (once-each (rowFor words n) (rowList words i)
         (λ a b m j e. sym (row-for a (list-in a m) .1) ∙ ap (rowCell words) e ∙ row-for b (list-in b j) .1)
-        (subst Once (sym (row-list i h)) (lists-once (rowCell words i))))
+        (subst Once (sym (row-list i h)) (touching-once (rowCell words i))))

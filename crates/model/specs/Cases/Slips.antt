@@ -25,10 +25,10 @@ slips =
     record { batches = row ∷ removing 1 ∷ []; seen = ids ((at 0, 1) ∷ (at 2, 0) ∷ (at 3, 0) ∷ []) ∷ [] } ∷
     -- Equal pieces: the one with the least cell would lose the id.
     record { batches = fill 0 ∷ fill 1 ∷ fill 2 ∷ removing 1 ∷ []; seen = ids ((at 0, 0) ∷ (at 2, 1) ∷ []) ∷ [] } ∷
-    -- A cell marked when visited would come twice, before (2,0,0).
+    -- A cell marked when visited would come twice, before (2,1,0).
     record {
-      batches = moving ((0, at 0) ∷ (1, at 1) ∷ (2, cell 1 0 1 0) ∷ (3, at 2) ∷ []) ∷ [];
-      seen = floods (at 0) none (at 0 ∷ at 1 ∷ cell 1 0 1 0 ∷ at 2 ∷ []) ∷ [];
+      batches = moving ((0, at 0) ∷ (1, at 1) ∷ (2, cell 1 0 1 0) ∷ (3, cell 1 2 1 0) ∷ []) ∷ [];
+      seen = floods (at 0) none (at 0 ∷ at 1 ∷ cell 1 0 1 0 ∷ cell 1 2 1 0 ∷ []) ∷ [];
     } ∷
     -- A depth on both sides would leave out (-1,0,0).
     record { batches = fill 0 ∷ moving ((1, minus 1) ∷ []) ∷ []; seen = floods (at 0) (depth 0) (at 0 ∷ minus 1 ∷ []) ∷ [] } ∷ []

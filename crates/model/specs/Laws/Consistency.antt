@@ -5,22 +5,24 @@ use mathlib.Core.Bool.{Bool, _&&_, not}
 use mathlib.Core.List.{List, [], List·Memᴰ as Mem, List·Memᴰ·not-nil as mem-nil}
 use lib.Dec.{T, eqb, eqb→eq, eqb-refl, leb, leb→le, le→leb, ltb, ltb→lt, lt→ltb}
 use lib.ListN.{length}
-use Rattle.model.specs.Lists.{keep, all, has, distinct, equal, isAscending, keys, values}
+use Rattle.model.specs.Lists.{all, has, equal, isAscending, keys, values}
 use Rattle.model.specs.Cells.{Cell, same, below, cellInRange}
+use Rattle.model.specs.Masks.{maskOf, masked}
 use Rattle.model.specs.Occupancy.{Occupancy, occupied}
 use Rattle.model.specs.Paths.{stop, step}
 use Rattle.model.specs.Groups.{Ids, Groups, Group, Corner, records}
 use Rattle.model.specs.Update.{State, mostEntities, mostCells}
-use Rattle.model.specs.Consistent.{withinNumber, standing, cellsExact, listExact, listsExact, idsShared, sameCorner, sameRecord, recordsExact, idsBelowNext, coordinatesInRange, netsInOrder, consistent}
+use Rattle.model.specs.Consistent.{withinNumber, standing, cellsExact, masksExact, idsShared, sameCorner, sameRecord, recordsExact, idsBelowNext, coordinatesInRange, netsInOrder, consistent}
 use Rattle.model.specs.Laws.Tests.{and-fst, and-snd, and-both}
 use Rattle.model.specs.Laws.Orders.{cells}
-use Rattle.model.specs.Laws.Members.{all-in, all-out, has-of, of-has, hasnt-of, of-hasnt, keep-in, keep-out, distinct-in, distinct-out, equal-in, equal-out}
+use Rattle.model.specs.Laws.Members.{all-in, all-out, has-of, of-has, hasnt-of, of-hasnt, equal-in, equal-out, each-out}
 use Rattle.model.specs.Laws.Sorted.{Asc, isAscending-in, isAscending-out, ascending-asc}
 use Rattle.model.specs.Laws.Tables.{At, at-mem, at-key, key-at, asc-fair, at-once}
 use Rattle.model.specs.Laws.Values.{value-in}
 use Rattle.model.specs.Laws.Walks.{wider}
 use Rattle.model.specs.Laws.Shared.{Shared, shared-in, shared-out}
-use Rattle.model.specs.Laws.Occupied.{Exact, Sound}
+use Rattle.model.specs.Laws.Masks.{rows-of-keys}
+use Rattle.model.specs.Laws.Occupied.{Sound}
 use Rattle.model.specs.Laws.Fine.{Fine, along}
 use Rattle.model.specs.Laws.Steady.{Steady}
 
@@ -94,30 +96,6 @@ both : (a b : Bool) → T (a && b) → T a × T b
 both a b t = (and-fst a b t, and-snd a b t)
 
 module _ (touch : Cell → Cell → Bool) where
-  -- A list passes the test exactly if it holds each touching one of the cells once and no other.
-  module _ (among : List Cell) (c : Cell) (l : List Cell) where
-    abbrev noOther : Bool
-    noOther = all (λ d. touch c d && has same among d) l
-
-    abbrev everyOne : Bool
-    everyOne = all (has same l) (keep (touch c) among)
-
-    pub exact-in : Exact touch among c l → T (listExact touch among c l)
-    exact-in e =
-        and-both (distinct same l) (noOther && everyOne) (distinct-in cells (e .once))
-        (and-both noOther everyOne (all-in (λ d. touch c d && has same among d) l (λ d m. and-both (touch c d) (has same among d) (e .only m .1) (has-of cells (e .only m .0))))
-        (all-in (has same l) (keep (touch c) among) (λ d m. let r = keep-out (touch c) among m in has-of cells (e .every (r .0) (r .1)))))
-
-    pub exact-out : T (listExact touch among c l) → Exact touch among c l
-    exact-out t =
-        let p : T (distinct same l) × T (noOther && everyOne) = both (distinct same l) (noOther && everyOne) t in
-        let u : T noOther × T everyOne = both noOther everyOne (p .1) in
-        record {
-          once = distinct-out cells l (p .0);
-          only = λ {d} m. let v : T (touch c d) × T (has same among d) = both (touch c d) (has same among d) (all-out (λ d. touch c d && has same among d) l (u .0) m) in (of-has cells among (v .1), v .0);
-          every = λ {d} m w. of-has cells l (all-out (has same l) (keep (touch c) among) (u .1) (keep-in (touch c) m w));
-        }
-
   module _ (flip : (a b : Cell) → T (touch a b) → T (touch b a)) (s : State) where
     abbrev o : Occupancy
     o = s .occupancy
@@ -139,7 +117,7 @@ module _ (touch : Cell → Cell → Bool) where
     from4 = idsShared touch s && from5
 
     abbrev from3 : Bool
-    from3 = listsExact touch s && from4
+    from3 = masksExact touch s && from4
 
     abbrev from2 : Bool
     from2 = cellsExact s && from3
@@ -192,7 +170,7 @@ module _ (touch : Cell → Cell → Bool) where
     ok-out t =
         let p1 : T (withinNumber s) × T from2 = both (withinNumber s) from2 t in
         let p2 : T (cellsExact s) × T from3 = both (cellsExact s) from3 (p1 .1) in
-        let p3 : T (listsExact touch s) × T from4 = both (listsExact touch s) from4 (p2 .1) in
+        let p3 : T (masksExact touch s) × T from4 = both (masksExact touch s) from4 (p2 .1) in
         let p4 : T (idsShared touch s) × T from5 = both (idsShared touch s) from5 (p3 .1) in
         let p5 : T (recordsExact s) × T from6 = both (recordsExact s) from6 (p4 .1) in
         let p6 : T (idsBelowNext s) × T from7 = both (idsBelowNext s) from7 (p5 .1) in
@@ -212,7 +190,7 @@ module _ (touch : Cell → Cell → Bool) where
           sound = record {
             asc = isAscending-out (keys (o .entities)) (n1 .0);
             cells = here;
-            exact = λ c l m. exact-out (occupied o) c l (all-out (λ (p : Cell × List Cell). listExact touch (occupied o) (p .0) (p .1)) (o .lists) (p3 .0) m);
+            exact = rows-of-keys (maskOf touch (occupied o)) (o .masks) (λ p m. eqb→eq (p .1) (maskOf touch (occupied o) (p .0)) (all-out (λ (p : Cell × ℕ). eqb (p .1) (maskOf touch (occupied o) (p .0))) (o .masks) (p3 .0) m));
           };
           few-entities = leb→le (length (o .entities)) mostEntities (n2 .0);
           few-cells = leb→le (length (occupied o)) mostCells (n2 .1);
@@ -231,6 +209,12 @@ module _ (touch : Cell → Cell → Bool) where
           not-emptied = λ c m. of-hasnt cells (occupied o) (all-out (λ c. not (has same (occupied o) c)) (o .newlyEmptied) (m5 .1) m);
         }
 
+    -- Each row of the masked cells passes the test.
+    exact-row : {p : Cell × ℕ} → Mem p (masked touch (occupied o)) → T (eqb (p .1) (maskOf touch (occupied o) (p .0)))
+    exact-row {p} m =
+        let r = each-out (λ c. (c, maskOf touch (occupied o) c)) (occupied o) m in
+        subst (λ (q : Cell × ℕ). T (eqb (q .1) (maskOf touch (occupied o) (q .0)))) (sym (r .2)) (eqb-refl (maskOf touch (occupied o) (r .0)))
+
     -- A state that is Ok is consistent.
     pub ok-in : Ok touch s → T (consistent touch s)
     ok-in k =
@@ -239,8 +223,8 @@ module _ (touch : Cell → Cell → Bool) where
         (and-both ents-few cells-few (le→leb (length (o .entities)) mostEntities (k .few-entities)) (le→leb (length (occupied o)) mostCells (k .few-cells))))
         (and-both (cellsExact s) from3
         (and-both ids-stand cells-stand (equal-in same (cells .same-self) (k .id-cells ∙ k .sound .cells)) (equal-in same (cells .same-self) (k .sound .cells)))
-        (and-both (listsExact touch s) from4
-        (all-in (λ (p : Cell × List Cell). listExact touch (occupied o) (p .0) (p .1)) (o .lists) (λ p m. exact-in (occupied o) (p .0) (p .1) (k .sound .exact (p .0) (p .1) m)))
+        (and-both (masksExact touch s) from4
+        (all-in (λ (p : Cell × ℕ). eqb (p .1) (maskOf touch (occupied o) (p .0))) (o .masks) (λ p m. exact-row (subst (λ t. Mem p t) (k .sound .exact) m)))
         (and-both (idsShared touch s) from5 (shared-in touch flip (s .groups .ids) (k .shared))
         (and-both (recordsExact s) from6 (equal-in sameRecord record-self (k .records-are))
         (and-both (idsBelowNext s) from7 (all-in (λ g. ltb g (s .groups .next)) (values (s .groups .ids)) (λ g m. lt→ltb g (s .groups .next) (k .under g m)))

@@ -73,10 +73,10 @@ module _ (touch : Cell → Cell → Bool) (was : List Cell) (was-asc : Asc below
       go false f = let n : Net was (openCell touch c o) = open-net c o net (occupied-asc touch o ok) (not-occupied touch o ok (T-false f)) in record { opened = n .opened; emptied = n .emptied }
 
 -- After a batch the net lists are the difference of the occupied cells and those occupied before.
-pub batch-net : (touch : Cell → Cell → Bool) (flip : (a b : Cell) → T (touch a b) → T (touch b a)) (apart : (a : Cell) → T (touch a a) → ⊥) (b : Batch) (o : Occupancy) → Sound touch o → Net (occupied o) (playBatch touch b o)
-batch-net touch flip apart b o ok =
+pub batch-net : (touch : Cell → Cell → Bool) (b : Batch) (o : Occupancy) → Sound touch o → Net (occupied o) (playBatch touch b o)
+batch-net touch b o ok =
     events-keep touch (λ o′. Sound touch o′ × Net (occupied o) o′) (λ p. Unit {0})
-    (λ o′ p x h q. (pass-sound touch flip apart o′ p (x .0) h, pass-net touch (occupied o) (occupied-asc touch o ok) o′ p (x .0) (x .1) h))
+    (λ o′ p x h q. (pass-sound touch o′ p (x .0) h, pass-net touch (occupied o) (occupied-asc touch o ok) o′ p (x .0) (x .1) h))
     (startBatch o) (events b) (λ p m. tt)
     (start-sound touch o ok, record { opened = sym (minus-self cells (occupied o)); emptied = sym (minus-self cells (occupied o)) }) .1
 

@@ -1,32 +1,28 @@
--- Occupancy stays sound: the occupied cells are those where an entity stands, and each list is exact.
+-- Occupancy stays sound: the occupied cells are those where an entity stands, and each mask is exact.
 use Prim.Native.Nat.{ℕ}
 use mathlib.Core.Path.{_≡_, refl, sym, _∙_, ap, subst}
 use mathlib.Core.Logic.{⊎-elim}
 use mathlib.Core.Bool.{Bool, true, false, cond, not}
-use mathlib.Core.List.{List, [], _∷_, _++_, List·Memᴰ as Mem, List·Memᴰ·head as head, List·Memᴰ·tail as tail, List·Memᴰ·not-nil as mem-nil, List·Memᴰ·eq-of-singleton as mem-one, Memᴰ·cast as mem-cast, Memᴰ·append-left as append-left, Memᴰ·append-right as append-right, List·Memᴰ·append-cases as append-cases}
+use mathlib.Core.List.{List, [], _∷_, _++_, List·Memᴰ as Mem, List·Memᴰ·head as head, List·Memᴰ·tail as tail, Memᴰ·cast as mem-cast}
 use mathlib.Core.Option.{Option, none, some}
 use lib.Dec.{T, T-not, eqb, ltb}
-use Rattle.model.specs.Lists.{keep, has, without, add, ascending, run, keys, values, put, get, dropKey, change}
+use Rattle.model.specs.Lists.{has, without, add, ascending, run, keys, values, put, get, dropKey}
 use Rattle.model.specs.Cells.{Cell, same, below}
+use Rattle.model.specs.Masks.{masked}
 use Rattle.model.specs.Occupancy.{Occupancy, Event, remove, moveTo, Batch, events, nothing, occupied, standsIn, withEntities, startBatch, Passage, leaves, enters, leavesFrom, isAt, passages, openCell, closeCell, enter, leave, pass, play, trace, playBatch}
 use Rattle.model.specs.Laws.Tests.{T-true, T-false, same-test}
 use Rattle.model.specs.Laws.Orders.{numbers, cells, is-or}
-use Rattle.model.specs.Laws.Members.{keep-in, keep-out, any-in, any-out, has-of, of-has, run-append, without-in, without-out, Once, once-nil, once-cons, once-keep, once-append}
-use Rattle.model.specs.Laws.Sorted.{Asc, nil, add-in, add-out, add-self, add-asc, add-old, keep-asc, asc-once, asc-equal, ascending-asc, ascending-in, ascending-out, ascending-equal}
-use Rattle.model.specs.Laws.Values.{value-in, value-out, value-put-out, value-put-self, value-put-in, value-drop-out, value-drop-in, change-all, put-all}
-use Rattle.model.specs.Laws.Tables.{At, Free, free-of, at-mem, keys-put, put-asc, drop-asc, at-of-drop, keys-change, keys-drop}
+use Rattle.model.specs.Laws.Members.{any-in, any-out, has-of, of-has, run-append, without-in, without-out}
+use Rattle.model.specs.Laws.Sorted.{Asc, nil, add-in, add-out, add-self, add-asc, add-old, keep-asc, asc-equal, ascending-asc, ascending-in, ascending-out, ascending-equal}
+use Rattle.model.specs.Laws.Values.{value-in, value-out, value-put-out, value-put-self, value-put-in, value-drop-out, value-drop-in}
+use Rattle.model.specs.Laws.Tables.{At, Free, free-of, at-mem, put-asc, drop-asc, at-of-drop}
+use Rattle.model.specs.Laws.Masks.{keys-masked}
 
--- A list holds each touching one of some cells once and no other.
-pub record Exact (touch : Cell → Cell → Bool) (among : List Cell) (c : Cell) (l : List Cell) : Type 0 where
-  pub once : Once l
-  pub only : {d : Cell} → Mem d l → Mem d among × T (touch c d)
-  pub every : {d : Cell} → Mem d among → T (touch c d) → Mem d l
-
--- Entities ascend; the occupied cells are those where an entity stands, ascending; each list is exact.
+-- Entities ascend; the occupied cells are those where an entity stands, ascending; each mask is exact.
 pub record Sound (touch : Cell → Cell → Bool) (o : Occupancy) : Type 0 where
   pub asc : Asc ltb (keys (o .entities))
   pub cells : occupied o ≡ ascending below (values (o .entities))
-  pub exact : (c : Cell) (l : List Cell) → Mem (c, l) (o .lists) → Exact touch (occupied o) c l
+  pub exact : o .masks ≡ masked touch (occupied o)
 
 -- A leaving entity stands in the cell it leaves; an entering entity stands nowhere.
 abbrev pub Fits : List (ℕ × Cell) → Passage → Type 0
@@ -87,15 +83,11 @@ module _ (t : List (ℕ × Cell)) (e : ℕ) (c : Cell) where
 module _ (touch : Cell → Cell → Bool) where
   -- A cell that opens is added to the occupied cells.
   pub occupied-open : (c : Cell) (o : Occupancy) → occupied (openCell touch c o) ≡ add below c (occupied o)
-  occupied-open c o =
-      let f : Cell → List Cell → List Cell = λ d l. cond (touch c d) (l ++ (c ∷ [])) l in
-      keys-put cells (change f (o .lists)) c (keep (touch c) (occupied o)) ∙ ap (add below c) (keys-change f (o .lists))
+  occupied-open c o = keys-masked touch (add below c (occupied o))
 
   -- A cell that closes is left out of the occupied cells.
   pub occupied-close : (c : Cell) (o : Occupancy) → occupied (closeCell touch c o) ≡ without same c (occupied o)
-  occupied-close c o =
-      let f : Cell → List Cell → List Cell = λ d l. cond (touch c d) (without same c l) l in
-      keys-change f (dropKey same c (o .lists)) ∙ keys-drop same c (o .lists)
+  occupied-close c o = keys-masked touch (without same c (occupied o))
 
   -- To leave takes the cell from the occupied cells if no other entity stands there.
   pub occupied-leave : (e : ℕ) (c : Cell) (o : Occupancy) → occupied (leave touch e c o) ≡ cond (standsIn (dropKey eqb e (o .entities)) c) (occupied o) (without same c (occupied o))
@@ -138,111 +130,55 @@ module _ (touch : Cell → Cell → Bool) where
         go true f = sym (add-old cells occupied-asc (occupied-in (of-stands (o .entities) c (T-true f))))
         go false f = occupied-open c o
 
-  module _ (flip : (a b : Cell) → T (touch a b) → T (touch b a)) where
-    module _ (apart : (a : Cell) → T (touch a a) → ⊥) (c : Cell) (among : List Cell) (new : Mem c among → ⊥) where
-      -- A cell that opens gets an exact list.
-      exact-new : Asc below among → Exact touch (add below c among) c (keep (touch c) among)
-      exact-new s =
+  -- Soundness stays when an entity enters.
+  pub enter-sound : (e : ℕ) (c : Cell) (o : Occupancy) → Sound touch o → Free eqb (o .entities) e → Sound touch (enter touch e c o)
+  enter-sound e c o ok n = go (standsIn (o .entities) c) refl
+    where
+      t : List (ℕ × Cell)
+      t = put ltb e c (o .entities)
+
+      grown : ascending below (values t) ≡ add below c (occupied o)
+      grown = cells-put (o .entities) e c n ∙ ap (add below c) (sym (ok .cells))
+
+      go : (b : Bool) → standsIn (o .entities) c ≡ b → Sound touch (withEntities t (cond b o (openCell touch c o)))
+      go true f =
           record {
-            once = once-keep (touch c) among (asc-once cells s);
-            only = λ {d} m. (add-in cells c among (keep-out (touch c) among m .0), keep-out (touch c) among m .1);
-            every = λ {d} m t. ⊎-elim (λ e. absurd (apart c (subst (λ x. T (touch c x)) e t))) (λ k. keep-in (touch c) k t) (add-out cells c among m);
+            asc = put-asc numbers (o .entities) e c (ok .asc);
+            cells = sym (add-old cells (occupied-asc o ok) (occupied-in o ok (of-stands (o .entities) c (T-true f)))) ∙ sym grown;
+            exact = ok .exact;
+          }
+      go false f =
+          record {
+            asc = put-asc numbers (o .entities) e c (ok .asc);
+            cells = occupied-open c o ∙ sym grown;
+            exact = ap (masked touch) (sym (occupied-open c o));
           }
 
-      -- Lists stay exact when a cell that was not occupied opens.
-      exact-open : (d : Cell) (l : List Cell) → Exact touch among d l → Exact touch (add below c among) d (cond (touch c d) (l ++ (c ∷ [])) l)
-      exact-open d l x = go (touch c d) refl
-        where
-          go : (b : Bool) → touch c d ≡ b → Exact touch (add below c among) d (cond b (l ++ (c ∷ [])) l)
-          go true e =
-              record {
-                once = once-append l (c ∷ []) (x .once) (once-cons mem-nil once-nil) (λ a k j. new (mem-cast (sym (mem-one j)) (x .only k .0)));
-                only = λ {d = a} m. ⊎-elim (λ k. (add-in cells c among (x .only k .0), x .only k .1))
-                    (λ k. (add-self cells c among (mem-one k), subst (λ y. T (touch d y)) (sym (mem-one k)) (flip c d (T-true e)))) (append-cases l m);
-                every = λ {d = a} m t. ⊎-elim (λ f. append-right l (head f)) (λ k. append-left (c ∷ []) (x .every k t)) (add-out cells c among m);
-              }
-          go false e =
-              record {
-                once = x .once;
-                only = λ {d = a} m. (add-in cells c among (x .only m .0), x .only m .1);
-                every = λ {d = a} m t. ⊎-elim (λ f. absurd (T-not (touch c d) (T-false e) (flip d c (subst (λ y. T (touch d y)) f t)))) (λ k. x .every k t) (add-out cells c among m);
-              }
+  -- Soundness stays when an entity leaves.
+  pub leave-sound : (e : ℕ) (c : Cell) (o : Occupancy) → Sound touch o → At eqb (o .entities) e c → Sound touch (leave touch e c o)
+  leave-sound e c o ok p = go (standsIn t c) refl
+    where
+      t : List (ℕ × Cell)
+      t = dropKey eqb e (o .entities)
 
-    -- Lists stay exact when a cell closes.
-    exact-close : (c : Cell) (among : List Cell) (d : Cell) (l : List Cell) → Exact touch among d l → Exact touch (without same c among) d (cond (touch c d) (without same c l) l)
-    exact-close c among d l x = go (touch c d) refl
-      where
-        go : (b : Bool) → touch c d ≡ b → Exact touch (without same c among) d (cond b (without same c l) l)
-        go true e =
-            record {
-              once = once-keep _ l (x .once);
-              only = λ {d = a} m. let r : Mem a l × (a ≡ c → ⊥) = without-out cells c l m in (without-in cells c (x .only (r .0) .0) (r .1), x .only (r .0) .1);
-              every = λ {d = a} m t. let r : Mem a among × (a ≡ c → ⊥) = without-out cells c among m in without-in cells c (x .every (r .0) t) (r .1);
-            }
-        go false e =
-            record {
-              once = x .once;
-              only = λ {d = a} m. (without-in cells c (x .only m .0) (λ f. T-not (touch c d) (T-false e) (flip d c (subst (λ y. T (touch d y)) f (x .only m .1)))), x .only m .1);
-              every = λ {d = a} m t. x .every (without-out cells c among m .0) t;
-            }
+      go : (b : Bool) → standsIn t c ≡ b → Sound touch (withEntities t (cond b o (closeCell touch c o)))
+      go true f =
+          record {
+            asc = drop-asc numbers e (o .entities) (ok .asc);
+            cells = ok .cells ∙ sym (cells-drop-shared (o .entities) e c p (ok .asc) (T-true f));
+            exact = ok .exact;
+          }
+      go false f =
+          record {
+            asc = drop-asc numbers e (o .entities) (ok .asc);
+            cells = occupied-close c o ∙ ap (without same c) (ok .cells) ∙ sym (cells-drop-last (o .entities) e c p (ok .asc) (T-false f));
+            exact = ap (masked touch) (sym (occupied-close c o));
+          }
 
-    module _ (apart : (a : Cell) → T (touch a a) → ⊥) where
-      -- Soundness stays when an entity enters.
-      pub enter-sound : (e : ℕ) (c : Cell) (o : Occupancy) → Sound touch o → Free eqb (o .entities) e → Sound touch (enter touch e c o)
-      enter-sound e c o ok n = go (standsIn (o .entities) c) refl
-        where
-          t : List (ℕ × Cell)
-          t = put ltb e c (o .entities)
-
-          grown : ascending below (values t) ≡ add below c (occupied o)
-          grown = cells-put (o .entities) e c n ∙ ap (add below c) (sym (ok .cells))
-
-          go : (b : Bool) → standsIn (o .entities) c ≡ b → Sound touch (withEntities t (cond b o (openCell touch c o)))
-          go true f =
-              record {
-                asc = put-asc numbers (o .entities) e c (ok .asc);
-                cells = sym (add-old cells (occupied-asc o ok) (occupied-in o ok (of-stands (o .entities) c (T-true f)))) ∙ sym grown;
-                exact = ok .exact;
-              }
-          go false f =
-              record {
-                asc = put-asc numbers (o .entities) e c (ok .asc);
-                cells = occupied-open c o ∙ sym grown;
-                exact = subst (λ k. (d : Cell) (l : List Cell) → Mem (d, l) (openCell touch c o .lists) → Exact touch k d l) (sym (occupied-open c o))
-                    (put-all cells _ c (Exact touch (add below c (occupied o))) (keep (touch c) (occupied o)) (exact-new apart c (occupied o) new (occupied-asc o ok))
-                    (change-all (Exact touch (add below c (occupied o))) (λ d l. cond (touch c d) (l ++ (c ∷ [])) l) (o .lists) (λ d l m. exact-open apart c (occupied o) new d l (ok .exact d l m))));
-              }
-            where
-              new : Mem c (occupied o) → ⊥
-              new = not-occupied o ok (T-false f)
-
-      -- Soundness stays when an entity leaves.
-      pub leave-sound : (e : ℕ) (c : Cell) (o : Occupancy) → Sound touch o → At eqb (o .entities) e c → Sound touch (leave touch e c o)
-      leave-sound e c o ok p = go (standsIn t c) refl
-        where
-          t : List (ℕ × Cell)
-          t = dropKey eqb e (o .entities)
-
-          go : (b : Bool) → standsIn t c ≡ b → Sound touch (withEntities t (cond b o (closeCell touch c o)))
-          go true f =
-              record {
-                asc = drop-asc numbers e (o .entities) (ok .asc);
-                cells = ok .cells ∙ sym (cells-drop-shared (o .entities) e c p (ok .asc) (T-true f));
-                exact = ok .exact;
-              }
-          go false f =
-              record {
-                asc = drop-asc numbers e (o .entities) (ok .asc);
-                cells = occupied-close c o ∙ ap (without same c) (ok .cells) ∙ sym (cells-drop-last (o .entities) e c p (ok .asc) (T-false f));
-                exact = subst (λ k. (d : Cell) (l : List Cell) → Mem (d, l) (closeCell touch c o .lists) → Exact touch k d l) (sym (occupied-close c o))
-                    (change-all (Exact touch (without same c (occupied o))) (λ d l. cond (touch c d) (without same c l) l) (dropKey same c (o .lists))
-                    (λ d l m. exact-close c (occupied o) d l (ok .exact d l (keep-out (λ (q : Cell × List Cell). not (same c (q .0))) (o .lists) m .0))));
-              }
-
-      -- Soundness stays with each passage that fits.
-      pub pass-sound : (o : Occupancy) (p : Passage) → Sound touch o → Fits (o .entities) p → Sound touch (pass touch o p)
-      pass-sound o (leaves e c) ok h = leave-sound e c o ok h
-      pass-sound o (enters e c) ok h = enter-sound e c o ok h
+  -- Soundness stays with each passage that fits.
+  pub pass-sound : (o : Occupancy) (p : Passage) → Sound touch o → Fits (o .entities) p → Sound touch (pass touch o p)
+  pass-sound o (leaves e c) ok h = leave-sound e c o ok h
+  pass-sound o (enters e c) ok h = enter-sound e c o ok h
 
   -- What each fitting passage keeps, fitting passages keep.
   pub passes-keep : (P : Occupancy → Type 0) (Q : Passage → Type 0) → ((o : Occupancy) (p : Passage) → P o → Fits (o .entities) p → Q p → P (pass touch o p)) → {o : Occupancy} {ps : List Passage} → FitsAll touch o ps → ((p : Passage) → Mem p ps → Q p) → P o → P (run (pass touch) o ps)
@@ -284,21 +220,20 @@ module _ (touch : Cell → Cell → Bool) where
 
   -- The empty occupancy is sound.
   pub nothing-sound : Sound touch nothing
-  nothing-sound = record { asc = nil; cells = refl; exact = λ c l m. absurd (mem-nil m) }
+  nothing-sound = record { asc = nil; cells = refl; exact = refl }
 
   -- Soundness does not look at the net lists.
   pub start-sound : (o : Occupancy) → Sound touch o → Sound touch (startBatch o)
   start-sound o ok = record { asc = ok .asc; cells = ok .cells; exact = ok .exact }
 
-  module _ (flip : (a b : Cell) → T (touch a b) → T (touch b a)) (apart : (a : Cell) → T (touch a a) → ⊥) where
-    -- Soundness stays with events.
-    pub plays-sound : (o : Occupancy) (es : List Event) → Sound touch o → Sound touch (run (play touch) o es)
-    plays-sound o es ok = events-keep (Sound touch) (λ p. Unit {0}) (λ o′ p x h q. pass-sound flip apart o′ p x h) o es (λ p m. tt) ok
+  -- Soundness stays with events.
+  pub plays-sound : (o : Occupancy) (es : List Event) → Sound touch o → Sound touch (run (play touch) o es)
+  plays-sound o es ok = events-keep (Sound touch) (λ p. Unit {0}) (λ o′ p x h q. pass-sound o′ p x h) o es (λ p m. tt) ok
 
-    -- Soundness stays with an event.
-    pub play-sound : (o : Occupancy) (ev : Event) → Sound touch o → Sound touch (play touch o ev)
-    play-sound o ev ok = plays-sound o (ev ∷ []) ok
+  -- Soundness stays with an event.
+  pub play-sound : (o : Occupancy) (ev : Event) → Sound touch o → Sound touch (play touch o ev)
+  play-sound o ev ok = plays-sound o (ev ∷ []) ok
 
-    -- Soundness stays with a batch.
-    pub batch-sound : (b : Batch) (o : Occupancy) → Sound touch o → Sound touch (playBatch touch b o)
-    batch-sound b o ok = plays-sound (startBatch o) (events b) (start-sound o ok)
+  -- Soundness stays with a batch.
+  pub batch-sound : (b : Batch) (o : Occupancy) → Sound touch o → Sound touch (playBatch touch b o)
+  batch-sound b o ok = plays-sound (startBatch o) (events b) (start-sound o ok)

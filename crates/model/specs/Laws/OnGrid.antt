@@ -4,15 +4,17 @@ use mathlib.Core.Path.{_≡_, refl, sym, _∙_, ap, ap₂, subst}
 use mathlib.Core.Bool.{Bool, true, false, cond, not}
 use mathlib.Core.List.{List, [], _∷_, _++_, List·Memᴰ as Mem}
 use lib.Dec.{T, T-not, not-T, eqb, ltb}
-use Rattle.model.specs.Lists.{keep, has, without, add, run, put, only, dropKey, change}
+use Rattle.model.specs.Lists.{keep, has, without, add, run, put, only, dropKey}
 use Rattle.model.specs.Cells.{Cell, same, below}
+use Rattle.model.specs.Masks.{masked}
 use Rattle.model.specs.Occupancy.{Occupancy, Batch, Passage, leaves, enters, events, occupied, standsIn, withEntities, startBatch, openCell, closeCell, pass, trace, playBatch}
 use Rattle.model.specs.Runs.{onGrid, passageOn}
 use Rattle.model.specs.Laws.Tests.{T-true, T-false, false-of, same-test}
 use Rattle.model.specs.Laws.Orders.{numbers, cells, differ}
 use Rattle.model.specs.Laws.Members.{keep-in, keep-out, keep-swap, any-in, any-out}
 use Rattle.model.specs.Laws.Sorted.{Asc, keep-asc, keep-add-yes, keep-add-no}
-use Rattle.model.specs.Laws.Tables.{keys-only, only-change, only-put-yes, only-put-no, change-same, change-asc}
+use Rattle.model.specs.Laws.Tables.{keys-only}
+use Rattle.model.specs.Laws.Masks.{masked-on}
 use Rattle.model.specs.Laws.Touching.{Touching}
 use Rattle.model.specs.Laws.Occupied.{Sound, Fits, FitsAll, fits-nil, fits-cons, occupied-asc, pass-sound, start-sound, trace-fits, trace-run}
 use Rattle.model.specs.Laws.Minus.{minus-self}
@@ -26,14 +28,14 @@ abbrev pub viewed : ℕ → Occupancy → Occupancy
 viewed grid o =
     record {
       entities = keep (λ (p : ℕ × Cell). onGrid grid (p .1)) (o .entities);
-      lists = only (onGrid grid) (o .lists);
+      masks = only (onGrid grid) (o .masks);
       newlyOccupied = keep (onGrid grid) (o .newlyOccupied);
       newlyEmptied = keep (onGrid grid) (o .newlyEmptied);
     }
 
 -- Two occupancies with equal parts are equal.
-occ-equal : {o p : Occupancy} → o .entities ≡ p .entities → o .lists ≡ p .lists → o .newlyOccupied ≡ p .newlyOccupied → o .newlyEmptied ≡ p .newlyEmptied → o ≡ p
-occ-equal a b c d = λ i. record { entities = a i; lists = b i; newlyOccupied = c i; newlyEmptied = d i }
+occ-equal : {o p : Occupancy} → o .entities ≡ p .entities → o .masks ≡ p .masks → o .newlyOccupied ≡ p .newlyOccupied → o .newlyEmptied ≡ p .newlyEmptied → o ≡ p
+occ-equal a b c d = λ i. record { entities = a i; masks = b i; newlyOccupied = c i; newlyEmptied = d i }
 
 -- Touching does not leave a grid.
 pub stays-on : {touch : Cell → Cell → Bool} → Touching touch → (grid : ℕ) (a b : Cell) → T (touch a b) → T (onGrid grid a) → T (onGrid grid b)
@@ -54,7 +56,7 @@ stands-on grid l c o =
 
 -- The occupied cells of the grid.
 pub occupied-on : (grid : ℕ) (o : Occupancy) → occupied (viewed grid o) ≡ keep (onGrid grid) (occupied o)
-occupied-on grid o = keys-only (onGrid grid) (o .lists)
+occupied-on grid o = keys-only (onGrid grid) (o .masks)
 
 module _ (touch : Cell → Cell → Bool) (laws : Touching touch) (grid : ℕ) where
   -- Whether a cell is of the grid.
@@ -75,36 +77,26 @@ module _ (touch : Cell → Cell → Bool) (laws : Touching touch) (grid : ℕ) w
       open-on : viewed grid (openCell touch c o) ≡ openCell touch c (viewed grid o)
       open-on =
           occ-equal refl
-          (only-put-yes cells on (change f (o .lists)) c (keep (touch c) (occupied o)) (change-asc cells f (o .lists) occ-asc) u
-          ∙ ap₂ (λ l t. put below c l t) (sym (ap (keep (touch c)) (occupied-on grid o) ∙ keep-sub (touch c) on (occupied o) (λ d m t. stays-on laws grid c d t u))) (only-change on f (o .lists)))
+          (masked-on touch on (stays-on laws grid) (add below c (occupied o)) ∙ ap (masked touch) (keep-add-yes cells on c (occupied o) occ-asc u ∙ ap (add below c) (sym (occupied-on grid o))))
           (joins-on c u (o .newlyOccupied) (o .newlyEmptied) (subst (Asc below) (sym (net .opened)) (keep-asc _ _ occ-asc)))
           (keep-swap on (λ d. not (same c d)) (o .newlyEmptied))
-        where
-          f : Cell → List Cell → List Cell
-          f d l = cond (touch c d) (l ++ (c ∷ [])) l
 
       -- A cell of the grid closes on the grid by itself.
       close-on : viewed grid (closeCell touch c o) ≡ closeCell touch c (viewed grid o)
       close-on =
           occ-equal refl
-          (only-change on f (dropKey same c (o .lists)) ∙ ap (change f) (keep-swap (λ (p : Cell × List Cell). on (p .0)) (λ (p : Cell × List Cell). not (same c (p .0))) (o .lists)))
+          (masked-on touch on (stays-on laws grid) (without same c (occupied o)) ∙ ap (masked touch) (keep-swap on (λ d. not (same c d)) (occupied o) ∙ ap (without same c) (sym (occupied-on grid o))))
           (keep-swap on (λ d. not (same c d)) (o .newlyOccupied))
           (joins-on c u (o .newlyEmptied) (o .newlyOccupied) (subst (Asc below) (sym (net .emptied)) (keep-asc _ _ was-asc)))
-        where
-          f : Cell → List Cell → List Cell
-          f d l = cond (touch c d) (without same c l) l
 
-    module _ (n : T (not (on c))) where
+    module _ (exact : o .masks ≡ masked touch (occupied o)) (n : T (not (on c))) where
       -- A cell of the grid is another.
       other : (d : Cell) → T (on d) → T (not (same c d))
       other d u = differ cells {a = c} {b = d} (λ e. T-not (on c) n (subst (λ x. T (on x)) (sym e) u))
 
-      -- A cell of another grid is in no list of this one.
-      untouched : (f : List Cell → List Cell) (t : List (Cell × List Cell)) → only on (change (λ d l. cond (touch c d) (f l) l) t) ≡ only on t
-      untouched f t =
-          only-change on (λ d l. cond (touch c d) (f l) l) t
-          ∙ change-same (λ d l. cond (touch c d) (f l) l) (only on t) (λ q m. ap (λ b. cond b (f (q .1)) (q .1))
-          (false-of (touch c (q .0)) (not-T (touch c (q .0)) (λ t′. T-not (on c) n (stays-on laws grid (q .0) c (laws .flip c (q .0) t′) (keep-out (λ (p : Cell × List Cell). on (p .0)) t m .1))))))
+      -- Cells that are the same on the grid have the same masks there.
+      masks-same : (l : List Cell) → keep on l ≡ keep on (occupied o) → only on (masked touch l) ≡ only on (o .masks)
+      masks-same l e = masked-on touch on (stays-on laws grid) l ∙ ap (masked touch) e ∙ sym (masked-on touch on (stays-on laws grid) (occupied o)) ∙ ap (only on) (sym exact)
 
       -- In the net lists of the grid it does not show.
       joins-off : (b : Bool) (l : List Cell) → keep on (cond b l (add below c l)) ≡ keep on l
@@ -115,7 +107,7 @@ module _ (touch : Cell → Cell → Bool) (laws : Touching touch) (grid : ℕ) w
       open-off : viewed grid (openCell touch c o) ≡ viewed grid o
       open-off =
           occ-equal refl
-          (only-put-no cells on (change (λ d l. cond (touch c d) (l ++ (c ∷ [])) l) (o .lists)) c (keep (touch c) (occupied o)) n ∙ untouched (λ l. l ++ (c ∷ [])) (o .lists))
+          (masks-same (add below c (occupied o)) (keep-add-no cells on c (occupied o) n))
           (joins-off (has same (o .newlyEmptied) c) (o .newlyOccupied))
           (keep-sub on (λ d. not (same c d)) (o .newlyEmptied) (λ d m u. other d u))
 
@@ -123,7 +115,7 @@ module _ (touch : Cell → Cell → Bool) (laws : Touching touch) (grid : ℕ) w
       close-off : viewed grid (closeCell touch c o) ≡ viewed grid o
       close-off =
           occ-equal refl
-          (untouched (without same c) (dropKey same c (o .lists)) ∙ keep-sub (λ (p : Cell × List Cell). on (p .0)) (λ (p : Cell × List Cell). not (same c (p .0))) (o .lists) (λ q m u. other (q .0) u))
+          (masks-same (without same c (occupied o)) (keep-sub on (λ d. not (same c d)) (occupied o) (λ d m u. other d u)))
           (keep-sub on (λ d. not (same c d)) (o .newlyOccupied) (λ d m u. other d u))
           (joins-off (has same (o .newlyOccupied) c) (o .newlyEmptied))
 
@@ -156,18 +148,18 @@ module _ (touch : Cell → Cell → Bool) (laws : Touching touch) (grid : ℕ) w
       where
         go : (b : Bool) → viewed grid (cond b o (closeCell touch c o)) ≡ viewed grid o
         go true = refl
-        go false = close-off c o n
+        go false = close-off c o (ok .exact) n
     pass-off (enters e c) fits n = ap₂ (λ t x. withEntities t x) (rows-put-no numbers (λ (p : ℕ × Cell). on (p .1)) (o .entities) (ok .asc) e c fits n) (go (standsIn (o .entities) c))
       where
         go : (b : Bool) → viewed grid (cond b o (openCell touch c o)) ≡ viewed grid o
         go true = refl
-        go false = open-off c o n
+        go false = open-off c o (ok .exact) n
 
   -- Passages that fit do on the grid what those of the grid do there by themselves.
   passes-on : (was : List Cell) → Asc below was → {o : Occupancy} {ps : List Passage} → FitsAll touch o ps → Sound touch o → Net was o → viewed grid (run (pass touch) o ps) ≡ run (pass touch) (viewed grid o) (keep (passageOn grid) ps)
   passes-on was was-asc fits-nil ok net = refl
   passes-on was was-asc (fits-cons {o} {p} {ps} h r) ok net =
-      passes-on was was-asc r (pass-sound touch (laws .flip) (laws .apart) o p ok h) (pass-net touch was was-asc o p ok net h) ∙ go (passageOn grid p) refl
+      passes-on was was-asc r (pass-sound touch o p ok h) (pass-net touch was was-asc o p ok net h) ∙ go (passageOn grid p) refl
     where
       go : (b : Bool) → passageOn grid p ≡ b → run (pass touch) (viewed grid (pass touch o p)) (keep (passageOn grid) ps) ≡ run (pass touch) (viewed grid o) (cond b (p ∷ keep (passageOn grid) ps) (keep (passageOn grid) ps))
       go true e = ap (λ x. run (pass touch) x (keep (passageOn grid) ps)) (pass-on o ok was was-asc net p (T-true e))

@@ -52,11 +52,11 @@ module _ (touch : Cell → Cell → Bool) where
 
     -- The net lists are the difference since the batch began.
     net : Net (occupied (s .occupancy)) after
-    net = batch-net touch (laws .flip) (laws .apart) b (s .occupancy) (ok .sound)
+    net = batch-net touch b (s .occupancy) (ok .sound)
 
     -- The newly occupied cells are ascending.
     pub opened-asc : Asc below (playBatch touch b (s .occupancy) .newlyOccupied)
-    opened-asc = subst (Asc below) (sym (net .opened)) (keep-asc _ _ (occupied-asc touch after (batch-sound touch (laws .flip) (laws .apart) b (s .occupancy) (ok .sound))))
+    opened-asc = subst (Asc below) (sym (net .opened)) (keep-asc _ _ (occupied-asc touch after (batch-sound touch b (s .occupancy) (ok .sound))))
 
     -- The newly occupied cells have no id yet.
     pub opened-free : (c : Cell) → Mem c (playBatch touch b (s .occupancy) .newlyOccupied) → Free same (s .groups .ids) c
@@ -78,7 +78,7 @@ module _ (touch : Cell → Cell → Bool) where
         }
       where
         sound′ : Sound touch after
-        sound′ = batch-sound touch (laws .flip) (laws .apart) b (s .occupancy) (ok .sound)
+        sound′ = batch-sound touch b (s .occupancy) (ok .sound)
 
         old : (a : Cell) → (Mem a (after .newlyOccupied) ⊎ In same (s .groups .ids) a) × (Mem a (after .newlyEmptied) → ⊥) → Mem a (occupied after)
         old a r =

@@ -22,10 +22,10 @@ pub record Touching (touch : Cell → Cell → Bool) : Type 0 where
   pub one-grid : (a b : Cell) → T (touch a b) → a .grid ≡ b .grid
 
 -- Whether two offsets are the same.
-abbrev sameOffset : Offset → Offset → Bool
+abbrev pub sameOffset : Offset → Offset → Bool
 sameOffset o p = eqb (o .dx) (p .dx) && (eqb (o .dy) (p .dy) && eqb (o .dz) (p .dz))
 
-offset-eq : (o p : Offset) → T (sameOffset o p) → o ≡ p
+pub offset-eq : (o p : Offset) → T (sameOffset o p) → o ≡ p
 offset-eq o p t =
     let x : o .dx ≡ p .dx = eqb→eq _ _ (and-fst (eqb (o .dx) (p .dx)) _ t) in
     let r : T (eqb (o .dy) (p .dy) && eqb (o .dz) (p .dz)) = and-snd (eqb (o .dx) (p .dx)) _ t in
@@ -110,10 +110,10 @@ pub record AboveZero (c : Cell) : Type 0 where
   pub z : 0 < c .z
 
 -- The order of offsets is the order of the cells that they lead to.
-abbrev offsetBelow : Offset → Offset → Bool
+abbrev pub offsetBelow : Offset → Offset → Bool
 offsetBelow o p = before (o .dz) (p .dz) (before (o .dy) (p .dy) (ltb (o .dx) (p .dx)))
 
-offsets-asc : Asc offsetBelow offsets26
+pub offsets-asc : Asc offsetBelow offsets26
 offsets-asc = isAscending-out offsets26 tt
 
 before-map : (m n m′ n′ : ℕ) (r r′ : Bool) → (m < n → m′ < n′) → (m ≡ n → m′ ≡ n′) → (T r → T r′) → T (before m n r) → T (before m′ n′ r′)
@@ -122,17 +122,29 @@ before-map m n m′ n′ r r′ f g h t =
     (λ u. or-right (ltb m′ n′) _ (and-both (eqb m′ n′) r′ (eqb-of _ _ (g (eqb→eq m n (and-fst (eqb m n) r u)))) (h (and-snd (eqb m n) r u))))
     (or-cases (ltb m n) _ t)
 
-module _ (c : Cell) (up : AboveZero c) where
-  shift-mono : (o p : Offset) → T (offsetBelow o p) → T (below (shift c o) (shift c p))
-  shift-mono o p t =
-      let hx = up .x in let hy = up .y in let hz = up .z in
-      or-right (ltb (c .grid) (c .grid)) _ (and-both (eqb (c .grid) (c .grid)) _ (eqb-refl (c .grid))
-      (before-map (o .dz) (p .dz) (c .z + o .dz - 1) (c .z + p .dz - 1) _ _ (λ h. omega arith) (λ h. omega arith)
-      (before-map (o .dy) (p .dy) (c .y + o .dy - 1) (c .y + p .dy - 1) (ltb (o .dx) (p .dx)) _ (λ h. omega arith) (λ h. omega arith)
-      (λ u. lt→ltb (c .x + o .dx - 1) (c .x + p .dx - 1) (omega (arith, ltb→lt (o .dx) (p .dx) u)))) t))
+-- Steps in order, the first of which stays above zero, shift to cells in order.
+pub shift-mono : (c : Cell) (o p : Offset) → 0 < c .x + o .dx → 0 < c .y + o .dy → 0 < c .z + o .dz → T (offsetBelow o p) → T (below (shift c o) (shift c p))
+shift-mono c o p hx hy hz t =
+    or-right (ltb (c .grid) (c .grid)) _ (and-both (eqb (c .grid) (c .grid)) _ (eqb-refl (c .grid))
+    (before-map (o .dz) (p .dz) (c .z + o .dz - 1) (c .z + p .dz - 1) _ _ (λ h. omega arith) (λ h. omega arith)
+    (before-map (o .dy) (p .dy) (c .y + o .dy - 1) (c .y + p .dy - 1) (ltb (o .dx) (p .dx)) _ (λ h. omega arith) (λ h. omega arith)
+    (λ u. lt→ltb (c .x + o .dx - 1) (c .x + p .dx - 1) (omega (arith, ltb→lt (o .dx) (p .dx) u)))) t))
 
-  -- A step leads to the cell that it shifts to, and to no other.
-  leads-shift : (o : Offset) → T (leads c (shift c o) o)
+-- A step leads to no other cell than the one that it shifts to.
+pub shift-leads : (c d : Cell) (o : Offset) → c .grid ≡ d .grid → T (leads c d o) → d ≡ shift c o
+shift-leads c d o g t =
+    let r : T (eqb (c .y + o .dy) (suc (d .y)) && eqb (c .z + o .dz) (suc (d .z))) = and-snd (eqb (c .x + o .dx) (suc (d .x))) _ t in
+    let ex : c .x + o .dx ≡ suc (d .x) = eqb→eq _ _ (and-fst (eqb (c .x + o .dx) (suc (d .x))) _ t) in
+    let ey : c .y + o .dy ≡ suc (d .y) = eqb→eq _ _ (and-fst (eqb (c .y + o .dy) (suc (d .y))) _ r) in
+    let ez : c .z + o .dz ≡ suc (d .z) = eqb→eq _ _ (and-snd (eqb (c .y + o .dy) (suc (d .y))) _ r) in
+    let hx : d .x ≡ c .x + o .dx - 1 = omega arith in
+    let hy : d .y ≡ c .y + o .dy - 1 = omega arith in
+    let hz : d .z ≡ c .z + o .dz - 1 = omega arith in
+    λ i. record { grid = sym g i; z = hz i; y = hy i; x = hx i }
+
+module _ (c : Cell) (up : AboveZero c) where
+  -- A step leads to the cell that it shifts to.
+  pub leads-shift : (o : Offset) → T (leads c (shift c o) o)
   leads-shift o =
       let hx = up .x in let hy = up .y in let hz = up .z in
       let ex : c .x + o .dx ≡ suc (c .x + o .dx - 1) = omega arith in
@@ -140,20 +152,9 @@ module _ (c : Cell) (up : AboveZero c) where
       let ez : c .z + o .dz ≡ suc (c .z + o .dz - 1) = omega arith in
       and-both (eqb (c .x + o .dx) (suc (c .x + o .dx - 1))) _ (eqb-of _ _ ex) (and-both (eqb (c .y + o .dy) (suc (c .y + o .dy - 1))) _ (eqb-of _ _ ey) (eqb-of _ _ ez))
 
-  shift-leads : (d : Cell) (o : Offset) → c .grid ≡ d .grid → T (leads c d o) → d ≡ shift c o
-  shift-leads d o g t =
-      let r : T (eqb (c .y + o .dy) (suc (d .y)) && eqb (c .z + o .dz) (suc (d .z))) = and-snd (eqb (c .x + o .dx) (suc (d .x))) _ t in
-      let ex : c .x + o .dx ≡ suc (d .x) = eqb→eq _ _ (and-fst (eqb (c .x + o .dx) (suc (d .x))) _ t) in
-      let ey : c .y + o .dy ≡ suc (d .y) = eqb→eq _ _ (and-fst (eqb (c .y + o .dy) (suc (d .y))) _ r) in
-      let ez : c .z + o .dz ≡ suc (d .z) = eqb→eq _ _ (and-snd (eqb (c .y + o .dy) (suc (d .y))) _ r) in
-      let hx : d .x ≡ c .x + o .dx - 1 = omega arith in
-      let hy : d .y ≡ c .y + o .dy - 1 = omega arith in
-      let hz : d .z ≡ c .z + o .dz - 1 = omega arith in
-      λ i. record { grid = sym g i; z = hz i; y = hy i; x = hx i }
-
   -- The neighbours stand in cell order.
   pub neighbours-asc : (s : Offsets) → Asc below (neighbours s c)
-  neighbours-asc s = each-asc (shift c) (keep s offsets26) (λ o p m k t. shift-mono o p t) (keep-asc s offsets26 offsets-asc)
+  neighbours-asc s = each-asc (shift c) (keep s offsets26) (λ o p m k t. let hx = up .x in let hy = up .y in let hz = up .z in shift-mono c o p (omega arith) (omega arith) (omega arith) t) (keep-asc s offsets26 offsets-asc)
 
   -- A neighbour touches the cell.
   pub neighbour-touches : (s : Offsets) {d : Cell} → Mem d (neighbours s c) → T (touchBy s c d)
@@ -167,7 +168,7 @@ module _ (c : Cell) (up : AboveZero c) where
   pub touching-neighbour : (s : Offsets) {d : Cell} → T (touchBy s c d) → Mem d (neighbours s c)
   touching-neighbour s {d} t =
       let r = step-of s c d t in
-      subst (λ e. Mem e (neighbours s c)) (sym (shift-leads d (r .0) (eqb→eq _ _ (and-fst (eqb (c .grid) (d .grid)) _ t)) (r .3)))
+      subst (λ e. Mem e (neighbours s c)) (sym (shift-leads c d (r .0) (eqb→eq _ _ (and-fst (eqb (c .grid) (d .grid)) _ t)) (r .3)))
       (each-in (shift c) (keep-in s (r .1) (r .2)))
 
   -- Trying the neighbours in order finds the touching cells of an ascending list in cell order.

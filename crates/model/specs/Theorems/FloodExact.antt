@@ -28,7 +28,7 @@ pub record Whole (touch : Cell → Cell → Bool) (among : List Cell) (seed : Ce
   pub joined : (a : Cell) → Mem a l ↔ Joined touch among seed a
 
 -- The whole flood of an occupied seed gives exactly the cells joined to it, each once, the seed first.
-pub flood-exact : (touch : Cell → Cell → Bool) (o : Occupancy) → Sound touch o → (seed : Cell) → Mem seed (occupied o) → Whole touch (occupied o) seed (wholeFlood o seed)
+pub flood-exact : (touch : Cell → Cell → Bool) (o : Occupancy) → Sound touch o → (seed : Cell) → Mem seed (occupied o) → Whole touch (occupied o) seed (wholeFlood touch o seed)
 flood-exact touch o ok seed h =
     record {
       starts = whole-first touch o ok seed h;
@@ -37,10 +37,10 @@ flood-exact touch o ok seed h =
     }
 
 -- An unoccupied seed gives nothing, and that was all of it.
-pub flood-nothing : (o : Occupancy) (seed : Cell) (depth : Depth) (budget : ℕ) → (Mem seed (occupied o) → ⊥) → flood o seed depth budget ≡ record { cells = []; number = 0; wasAll = true }
-flood-nothing o seed depth budget n =
-    let e : take budget (cutAt depth seed (wholeFlood o seed)) ≡ [] = ap (λ l. take budget (cutAt depth seed l)) (whole-none o seed n) ∙ ap (take budget) (cut-nil depth) ∙ take-nil budget in
-    let t : leb (length (cutAt depth seed (wholeFlood o seed))) budget ≡ true = ap (λ l. leb (length (cutAt depth seed l)) budget) (whole-none o seed n) ∙ ap (λ l. leb (length l) budget) (cut-nil depth) ∙ leb·zero budget in
+pub flood-nothing : (touch : Cell → Cell → Bool) (o : Occupancy) (seed : Cell) (depth : Depth) (budget : ℕ) → (Mem seed (occupied o) → ⊥) → flood touch o seed depth budget ≡ record { cells = []; number = 0; wasAll = true }
+flood-nothing touch o seed depth budget n =
+    let e : take budget (cutAt depth seed (wholeFlood touch o seed)) ≡ [] = ap (λ l. take budget (cutAt depth seed l)) (whole-none touch o seed n) ∙ ap (take budget) (cut-nil depth) ∙ take-nil budget in
+    let t : leb (length (cutAt depth seed (wholeFlood touch o seed))) budget ≡ true = ap (λ l. leb (length (cutAt depth seed l)) budget) (whole-none touch o seed n) ∙ ap (λ l. leb (length l) budget) (cut-nil depth) ∙ leb·zero budget in
     λ i. record { cells = e i; number = length (e i); wasAll = t i }
   where
     cut-nil : (d : Depth) → cutAt d seed [] ≡ []
@@ -48,61 +48,61 @@ flood-nothing o seed depth budget n =
     cut-nil (some d) = refl
 
 -- With no depth and a budget of at least the number of occupied cells, a flood gives the whole flood, and that was all of it.
-pub flood-whole : (touch : Cell → Cell → Bool) (o : Occupancy) → Sound touch o → (seed : Cell) (budget : ℕ) → length (occupied o) ≤ budget → flood o seed none budget ≡ record { cells = wholeFlood o seed; number = length (wholeFlood o seed); wasAll = true }
+pub flood-whole : (touch : Cell → Cell → Bool) (o : Occupancy) → Sound touch o → (seed : Cell) (budget : ℕ) → length (occupied o) ≤ budget → flood touch o seed none budget ≡ record { cells = wholeFlood touch o seed; number = length (wholeFlood touch o seed); wasAll = true }
 flood-whole touch o ok seed budget h =
-    let s : length (wholeFlood o seed) ≤ budget = omega (arith, whole-shorter touch o ok seed) in
-    let e : take budget (wholeFlood o seed) ≡ wholeFlood o seed = take-all budget (wholeFlood o seed) s in
-    let t : leb (length (wholeFlood o seed)) budget ≡ true = true-of _ (le→leb (length (wholeFlood o seed)) budget s) in
+    let s : length (wholeFlood touch o seed) ≤ budget = omega (arith, whole-shorter touch o ok seed) in
+    let e : take budget (wholeFlood touch o seed) ≡ wholeFlood touch o seed = take-all budget (wholeFlood touch o seed) s in
+    let t : leb (length (wholeFlood touch o seed)) budget ≡ true = true-of _ (le→leb (length (wholeFlood touch o seed)) budget s) in
     λ i. record { cells = e i; number = length (e i); wasAll = t i }
 
-module _ (o : Occupancy) (seed : Cell) (depth : Depth) (budget : ℕ) where
+module _ (touch : Cell → Cell → Bool) (o : Occupancy) (seed : Cell) (depth : Depth) (budget : ℕ) where
   -- The number given is the number of cells given.
-  pub flood-number : flood o seed depth budget .number ≡ length (flood o seed depth budget .cells)
+  pub flood-number : flood touch o seed depth budget .number ≡ length (flood touch o seed depth budget .cells)
   flood-number = refl
 
   -- No more cells are given than the budget.
-  pub flood-budget : flood o seed depth budget .number ≤ budget
-  flood-budget = omega (arith, length-take budget (cutAt depth seed (wholeFlood o seed)))
+  pub flood-budget : flood touch o seed depth budget .number ≤ budget
+  flood-budget = omega (arith, length-take budget (cutAt depth seed (wholeFlood touch o seed)))
 
   -- The cells given are the first of the whole flood as the depth leaves it.
-  pub flood-prefix : (rest : List Cell) × (flood o seed depth budget .cells ++ rest ≡ cutAt depth seed (wholeFlood o seed))
-  flood-prefix = (drop budget (cutAt depth seed (wholeFlood o seed)), take-append-drop budget (cutAt depth seed (wholeFlood o seed)))
+  pub flood-prefix : (rest : List Cell) × (flood touch o seed depth budget .cells ++ rest ≡ cutAt depth seed (wholeFlood touch o seed))
+  flood-prefix = (drop budget (cutAt depth seed (wholeFlood touch o seed)), take-append-drop budget (cutAt depth seed (wholeFlood touch o seed)))
 
   -- That was all of it exactly when the budget covers what the depth leaves.
-  pub flood-all : T (flood o seed depth budget .wasAll) ↔ (length (cutAt depth seed (wholeFlood o seed)) ≤ budget)
-  flood-all = (λ t. leb→le (length (cutAt depth seed (wholeFlood o seed))) budget t, λ h. le→leb (length (cutAt depth seed (wholeFlood o seed))) budget h)
+  pub flood-all : T (flood touch o seed depth budget .wasAll) ↔ (length (cutAt depth seed (wholeFlood touch o seed)) ≤ budget)
+  flood-all = (λ t. leb→le (length (cutAt depth seed (wholeFlood touch o seed))) budget t, λ h. le→leb (length (cutAt depth seed (wholeFlood touch o seed))) budget h)
 
   -- That was all of it exactly when the cells given are all that the depth leaves.
-  pub flood-all-cells : T (flood o seed depth budget .wasAll) ↔ (flood o seed depth budget .cells ≡ cutAt depth seed (wholeFlood o seed))
+  pub flood-all-cells : T (flood touch o seed depth budget .wasAll) ↔ (flood touch o seed depth budget .cells ≡ cutAt depth seed (wholeFlood touch o seed))
   flood-all-cells = (
-    λ t. take-all budget (cutAt depth seed (wholeFlood o seed)) (flood-all .0 t),
+    λ t. take-all budget (cutAt depth seed (wholeFlood touch o seed)) (flood-all .0 t),
     λ e. flood-all .1 (omega (arith, flood-budget, ap length e)),
   )
 
   -- No more cells are given than are occupied.
-  pub flood-occupied : (touch : Cell → Cell → Bool) → Sound touch o → flood o seed depth budget .number ≤ length (occupied o)
-  flood-occupied touch ok = omega (arith, length-take budget (cutAt depth seed (wholeFlood o seed)), cut-shorter depth (wholeFlood o seed), whole-shorter touch o ok seed)
+  pub flood-occupied : Sound touch o → flood touch o seed depth budget .number ≤ length (occupied o)
+  flood-occupied ok = omega (arith, length-take budget (cutAt depth seed (wholeFlood touch o seed)), cut-shorter depth (wholeFlood touch o seed), whole-shorter touch o ok seed)
     where
       cut-shorter : (d : Depth) (l : List Cell) → length (cutAt d seed l) ≤ length l
       cut-shorter none l = omega arith
       cut-shorter (some d) l = whilst-shorter (within d seed) l
 
   -- No cell is given twice.
-  pub flood-once : (touch : Cell → Cell → Bool) → Sound touch o → Once (flood o seed depth budget .cells)
-  flood-once touch ok = once-prefix (flood o seed depth budget .cells) (flood-prefix .0) (subst Once (sym (flood-prefix .1)) (cut-once depth (wholeFlood o seed) (whole-once touch o ok seed)))
+  pub flood-once : Sound touch o → Once (flood touch o seed depth budget .cells)
+  flood-once ok = once-prefix (flood touch o seed depth budget .cells) (flood-prefix .0) (subst Once (sym (flood-prefix .1)) (cut-once depth (wholeFlood touch o seed) (whole-once touch o ok seed)))
     where
       cut-once : (d : Depth) (l : List Cell) → Once l → Once (cutAt d seed l)
       cut-once none l x = x
       cut-once (some d) l x = let r : (rest : List Cell) × (whilst (within d seed) l ++ rest ≡ l) × ((y : Cell) (ys : List Cell) → rest ≡ y ∷ ys → T (not (within d seed y))) = whilst-split (within d seed) l in once-prefix (whilst (within d seed) l) (r .0) (subst Once (sym (r .1)) x)
 
-module _ (o : Occupancy) (seed : Cell) (d : ℕ) where
+module _ (touch : Cell → Cell → Bool) (o : Occupancy) (seed : Cell) (d : ℕ) where
   -- Every cell given under a depth is within it.
-  pub flood-within : (budget : ℕ) {a : Cell} → Mem a (flood o seed (some d) budget .cells) → T (within d seed a)
-  flood-within budget m = whilst-out (within d seed) (wholeFlood o seed) (take-out budget (cutAt (some d) seed (wholeFlood o seed)) m) .1
+  pub flood-within : (budget : ℕ) {a : Cell} → Mem a (flood touch o seed (some d) budget .cells) → T (within d seed a)
+  flood-within budget m = whilst-out (within d seed) (wholeFlood touch o seed) (take-out budget (cutAt (some d) seed (wholeFlood touch o seed)) m) .1
 
   -- A depth leaves the cells of the whole flood before the first that is not within it.
-  pub depth-cuts : (rest : List Cell) × (cutAt (some d) seed (wholeFlood o seed) ++ rest ≡ wholeFlood o seed) × ((x : Cell) (xs : List Cell) → rest ≡ x ∷ xs → T (not (within d seed x)))
-  depth-cuts = whilst-split (within d seed) (wholeFlood o seed)
+  pub depth-cuts : (rest : List Cell) × (cutAt (some d) seed (wholeFlood touch o seed) ++ rest ≡ wholeFlood touch o seed) × ((x : Cell) (xs : List Cell) → rest ≡ x ∷ xs → T (not (within d seed x)))
+  depth-cuts = whilst-split (within d seed) (wholeFlood touch o seed)
 
 -- The depth is one-sided: a cell is within it exactly if none of its coordinates minus the seed's is above d, signed.
 pub depth-one-sided : (d : ℕ) (seed c : Cell) → T (within d seed c) ↔ ((c .x + bias ≤ seed .x + d) × (c .y + bias ≤ seed .y + d) × (c .z + bias ≤ seed .z + d))

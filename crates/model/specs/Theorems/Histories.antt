@@ -1,4 +1,4 @@
--- Net lists, neighbour lists, floods and corners after every history of accepted batches.
+-- Net lists, masks, floods and corners after every history of accepted batches.
 use Prim.Native.Nat.{ℕ}
 use mathlib.Core.Path.{_≡_, sym, subst}
 use mathlib.Core.Bool.{Bool}
@@ -7,14 +7,13 @@ use mathlib.Core.Option.{some}
 use lib.Dec.{T}
 use Rattle.model.specs.Cells.{Cell, touch26}
 use Rattle.model.specs.Occupancy.{Batch, occupied}
-use Rattle.model.specs.Flood.{listOf, wholeFlood}
+use Rattle.model.specs.Masks.{masked}
+use Rattle.model.specs.Flood.{wholeFlood}
 use Rattle.model.specs.Groups.{Group, members}
 use Rattle.model.specs.Update.{State, accepted, update}
 use Rattle.model.specs.Questions.{idOf, groupBy}
 use Rattle.model.specs.Consistent.{consistent}
 use Rattle.model.specs.Runs.{Reached}
-use Rattle.model.specs.Laws.Occupied.{Exact}
-use Rattle.model.specs.Laws.Floods.{listOf-exact}
 use Rattle.model.specs.Laws.Touching.{Touching, touching-26}
 use Rattle.model.specs.Laws.Accepted.{update-accepted}
 use Rattle.model.specs.Laws.Consistency.{Ok, ok-out}
@@ -35,14 +34,14 @@ module _ (touch : Cell → Cell → Bool) (laws : Touching touch) {s : State} (r
   unfolding accepted
   net-reached b e =
       subst (λ (u : State). Since (s .occupancy) (u .occupancy)) (sym (update-accepted touch s b e .1))
-      (net-exact touch (laws .flip) (laws .apart) b (s .occupancy) (reached-ok .sound))
+      (net-exact touch b (s .occupancy) (reached-ok .sound))
 
-  -- Each list holds each touching occupied cell once and no other.
-  pub lists-reached : (c : Cell) → Mem c (occupied (s .occupancy)) → Exact touch (occupied (s .occupancy)) c (listOf (s .occupancy .lists) c)
-  lists-reached c m = listOf-exact touch (s .occupancy) (reached-ok .sound) m
+  -- Each mask has exactly the bits of touching occupied cells.
+  pub masks-reached : s .occupancy .masks ≡ masked touch (occupied (s .occupancy))
+  masks-reached = reached-ok .sound .exact
 
   -- The whole flood of an occupied seed visits exactly the cells joined to it, each once.
-  pub flood-reached : (seed : Cell) → Mem seed (occupied (s .occupancy)) → Whole touch (occupied (s .occupancy)) seed (wholeFlood (s .occupancy) seed)
+  pub flood-reached : (seed : Cell) → Mem seed (occupied (s .occupancy)) → Whole touch (occupied (s .occupancy)) seed (wholeFlood touch (s .occupancy) seed)
   flood-reached = flood-exact touch (s .occupancy) (reached-ok .sound)
 
   -- The group of an id that a cell has shows exactly the cells with that id.
@@ -54,10 +53,10 @@ module _ {s : State} (r : Reached touch26 s) where
   pub net-26 : (b : Batch) → update touch26 s b .0 ≡ 0 → Since (s .occupancy) (update touch26 s b .1 .occupancy)
   net-26 = net-reached touch26 touching-26 r
 
-  pub lists-26 : (c : Cell) → Mem c (occupied (s .occupancy)) → Exact touch26 (occupied (s .occupancy)) c (listOf (s .occupancy .lists) c)
-  lists-26 = lists-reached touch26 touching-26 r
+  pub masks-26 : s .occupancy .masks ≡ masked touch26 (occupied (s .occupancy))
+  masks-26 = masks-reached touch26 touching-26 r
 
-  pub flood-26 : (seed : Cell) → Mem seed (occupied (s .occupancy)) → Whole touch26 (occupied (s .occupancy)) seed (wholeFlood (s .occupancy) seed)
+  pub flood-26 : (seed : Cell) → Mem seed (occupied (s .occupancy)) → Whole touch26 (occupied (s .occupancy)) seed (wholeFlood touch26 (s .occupancy) seed)
   flood-26 = flood-reached touch26 touching-26 r
 
   pub corners-26 : (a : Cell) (g : ℕ) → idOf s a ≡ some g → (k : Group) × (groupBy s g ≡ some k) × Shows (members (s .groups .ids) g) k

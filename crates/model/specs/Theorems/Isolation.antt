@@ -12,10 +12,10 @@ use Rattle.component.specs.Around.{place, around}
 use Rattle.component.specs.Laws.Neighbours.{around-index}
 use Rattle.model.specs.Cells.{Cell, same, Offsets, all26, holdsOpposites, touchBy}
 use Rattle.model.specs.Occupancy.{Occupancy, Batch, occupied, playBatch}
-use Rattle.model.specs.Flood.{orEmpty, listOf, flood}
+use Rattle.model.specs.Flood.{flood}
 use Rattle.model.specs.Groups.{Ids, members}
 use Rattle.model.specs.Update.{State, accepted, update}
-use Rattle.model.specs.Questions.{whereIs, entitiesIn, idOf, nearby, cube}
+use Rattle.model.specs.Questions.{whereIs, entitiesIn, idOf, nearby, onesOf, neighbourCount, cube}
 use Rattle.model.specs.Runs.{onGrid, passagesOn, Alike, start, next, renamed, SameOn}
 use Rattle.model.specs.Laws.Orders.{numbers, cells}
 use Rattle.model.specs.Laws.Members.{keep-in, keep-out, keep-ext, each-in}
@@ -100,16 +100,16 @@ module _ (touch : Cell → Cell → Bool) (laws : Touching touch) (grid : ℕ) w
             (subst (λ i. Mem (a, r .sim .f g) i) (sym (r .sim .same)) (each-in (λ (q : Cell × ℕ). (q .0, r .sim .f (q .1))) (live a g u p))) .0)
 
     -- Runs that agree show the same of the grid.
-    same-on : SameOn grid s t
+    same-on : SameOn touch grid s t
     same-on =
         record {
           entities = ap (λ (o : Occupancy). o .entities) (r .views);
-          lists = ap (λ (o : Occupancy). o .lists) (r .views);
+          masks = ap (λ (o : Occupancy). o .masks) (r .views);
           newlyOccupied = ap (λ (o : Occupancy). o .newlyOccupied) (r .views);
           newlyEmptied = ap (λ (o : Occupancy). o .newlyEmptied) (r .views);
           floods = λ seed u depth budget.
               flood-on touch laws grid (s .occupancy) (r .left .sound) seed u depth budget
-              ∙ ap (λ o. flood o seed depth budget) (r .views)
+              ∙ ap (λ o. flood touch o seed depth budget) (r .views)
               ∙ sym (flood-on touch laws grid (t .occupancy) (r .right .sound) seed u depth budget);
           name = r .sim .f;
           ids = r .sim .same;
@@ -121,7 +121,7 @@ module _ (touch : Cell → Cell → Bool) (laws : Touching touch) (grid : ℕ) w
         }
 
   -- Runs that are alike on a grid show the same of it.
-  pub isolation : {s t : State} → Alike touch grid s t → SameOn grid s t
+  pub isolation : {s t : State} → Alike touch grid s t → SameOn touch grid s t
   isolation r = same-on (agree r)
 
   -- An entity that stands on the grid in one run stands there in the other.
@@ -141,13 +141,13 @@ get-renamed f (p ∷ ids) c = go (same c (p .0)) (get-renamed f ids c)
     go false e = e
 
 -- What is asked of a cell of the grid.
-module _ (grid : ℕ) {s t : State} (r : SameOn grid s t) (c : Cell) (u : T (onGrid grid c)) where
+module _ (touch : Cell → Cell → Bool) (grid : ℕ) {s t : State} (r : SameOn touch grid s t) (c : Cell) (u : T (onGrid grid c)) where
   -- Whether the cell is occupied.
   pub occupied-same : has same (occupied (s .occupancy)) c ≡ has same (occupied (t .occupancy)) c
-  occupied-same = seen s ∙ ap (λ l. has same (keys l) c) (r .lists) ∙ sym (seen t)
+  occupied-same = seen s ∙ ap (λ l. has same (keys l) c) (r .masks) ∙ sym (seen t)
     where
-      seen : (x : State) → has same (occupied (x .occupancy)) c ≡ has same (keys (only (onGrid grid) (x .occupancy .lists))) c
-      seen x = has-on (onGrid grid) (occupied (x .occupancy)) c u ∙ ap (λ l. has same l c) (sym (keys-only (onGrid grid) (x .occupancy .lists)))
+      seen : (x : State) → has same (occupied (x .occupancy)) c ≡ has same (keys (only (onGrid grid) (x .occupancy .masks))) c
+      seen x = has-on (onGrid grid) (occupied (x .occupancy)) c u ∙ ap (λ l. has same l c) (sym (keys-only (onGrid grid) (x .occupancy .masks)))
 
   -- Its entities.
   pub entitiesIn-same : entitiesIn s c ≡ entitiesIn t c
@@ -156,12 +156,17 @@ module _ (grid : ℕ) {s t : State} (r : SameOn grid s t) (c : Cell) (u : T (onG
       seen : (x : State) → keys (keep (λ (p : ℕ × Cell). same c (p .1)) (x .occupancy .entities)) ≡ keys (keep (λ (p : ℕ × Cell). same c (p .1)) (keep (λ (p : ℕ × Cell). onGrid grid (p .1)) (x .occupancy .entities)))
       seen x = sym (ap keys (keep-sub (λ (p : ℕ × Cell). same c (p .1)) (λ (p : ℕ × Cell). onGrid grid (p .1)) (x .occupancy .entities) (λ q m t. subst (λ d. T (onGrid grid d)) (cells .same-eq c (q .1) t) u)))
 
-  -- The cell and its list.
-  pub nearby-same : nearby s c ≡ nearby t c
-  nearby-same = let e = seen s ∙ ap (λ l. orEmpty (get same l c)) (r .lists) ∙ sym (seen t) in λ i. record { found = occupied-same i; list = cond (occupied-same i) (c ∷ e i) [] }
+  -- The cell and the occupied cells that touch it.
+  pub nearby-same : Touching touch → nearby touch s c ≡ nearby touch t c
+  nearby-same laws = let e = seen s ∙ ap (λ l. keep (touch c) (keys l)) (r .masks) ∙ sym (seen t) in λ i. record { found = occupied-same i; list = cond (occupied-same i) (c ∷ e i) [] }
     where
-      seen : (x : State) → listOf (x .occupancy .lists) c ≡ orEmpty (get same (only (onGrid grid) (x .occupancy .lists)) c)
-      seen x = ap orEmpty (sym (get-only-yes cells (onGrid grid) (x .occupancy .lists) c u))
+      seen : (x : State) → keep (touch c) (occupied (x .occupancy)) ≡ keep (touch c) (keys (only (onGrid grid) (x .occupancy .masks)))
+      seen x = sym (ap (keep (touch c)) (keys-only (onGrid grid) (x .occupancy .masks)) ∙ keep-sub (touch c) (onGrid grid) (occupied (x .occupancy)) (λ d m t. stays-on laws grid c d t u))
+
+  -- Its neighbour count.
+  pub neighbourCount-same : neighbourCount s c ≡ neighbourCount t c
+  neighbourCount-same =
+      ap onesOf (sym (get-only-yes cells (onGrid grid) (s .occupancy .masks) c u) ∙ ap (λ l. get same l c) (r .masks) ∙ get-only-yes cells (onGrid grid) (t .occupancy .masks) c u)
 
   -- Its id, renamed.
   pub idOf-same : idOf t c ≡ renamed (r .name) (idOf s c)
@@ -170,23 +175,23 @@ module _ (grid : ℕ) {s t : State} (r : SameOn grid s t) (c : Cell) (u : T (onG
       ∙ get-renamed (r .name) (only (onGrid grid) (s .groups .ids)) c ∙ ap (renamed (r .name)) (get-only-yes cells (onGrid grid) (s .groups .ids) c u)
 
 -- The occupied ones of some cells of the grid, such as a cube's.
-pub occupied-ones : (grid : ℕ) {s t : State} → SameOn grid s t → (l : List Cell) → ((c : Cell) → Mem c l → T (onGrid grid c)) → keep (has same (occupied (s .occupancy))) l ≡ keep (has same (occupied (t .occupancy))) l
-occupied-ones grid {s} {t} r l f = keep-ext (has same (occupied (s .occupancy))) (has same (occupied (t .occupancy))) l (λ c m. occupied-same grid r c (f c m))
+pub occupied-ones : (touch : Cell → Cell → Bool) (grid : ℕ) {s t : State} → SameOn touch grid s t → (l : List Cell) → ((c : Cell) → Mem c l → T (onGrid grid c)) → keep (has same (occupied (s .occupancy))) l ≡ keep (has same (occupied (t .occupancy))) l
+occupied-ones touch grid {s} {t} r l f = keep-ext (has same (occupied (s .occupancy))) (has same (occupied (t .occupancy))) l (λ c m. occupied-same touch grid r c (f c m))
 
 -- A neighbour of a cell of the grid, to any radius, is of the grid.
 around-on : (grid r : ℕ) (c : Cell) → T (onGrid grid c) → (d : Cell) → Mem d (around r c) → T (onGrid grid d)
 around-on grid r c u d m = let k = around-index r c d m in subst (λ x. T (onGrid grid x)) (k .1 .1) (unfold place in u)
 
 -- Every cube about a cell of the grid.
-pub cube-same : (grid : ℕ) {s t : State} → SameOn grid s t → (c : Cell) → T (onGrid grid c) → (r : ℕ) → cube s c r ≡ cube t c r
-cube-same grid {s} {t} same-on c u r =
-    let e = occupied-ones grid same-on (c ∷ around r c) (λ d m. ⊎-elim (λ f. subst (λ x. T (onGrid grid x)) (sym f) u) (λ k. around-on grid r c u d k) (mem-cons m)) in
-    λ i. record { found = occupied-same grid same-on c u i; list = e i }
+pub cube-same : (touch : Cell → Cell → Bool) (grid : ℕ) {s t : State} → SameOn touch grid s t → (c : Cell) → T (onGrid grid c) → (r : ℕ) → cube s c r ≡ cube t c r
+cube-same touch grid {s} {t} same-on c u r =
+    let e = occupied-ones touch grid same-on (c ∷ around r c) (λ d m. ⊎-elim (λ f. subst (λ x. T (onGrid grid x)) (sym f) u) (λ k. around-on grid r c u d k) (mem-cons m)) in
+    λ i. record { found = occupied-same touch grid same-on c u i; list = e i }
 
 -- For every set of offsets that holds the opposite of each of its members.
-pub isolation-by : (offsets : Offsets) → T (holdsOpposites offsets) → (grid : ℕ) {s t : State} → Alike (touchBy offsets) grid s t → SameOn grid s t
+pub isolation-by : (offsets : Offsets) → T (holdsOpposites offsets) → (grid : ℕ) {s t : State} → Alike (touchBy offsets) grid s t → SameOn (touchBy offsets) grid s t
 isolation-by offsets ok = isolation (touchBy offsets) (touching-by offsets ok)
 
 -- For all 26.
-pub isolation-26 : (grid : ℕ) {s t : State} → Alike (touchBy all26) grid s t → SameOn grid s t
+pub isolation-26 : (grid : ℕ) {s t : State} → Alike (touchBy all26) grid s t → SameOn (touchBy all26) grid s t
 isolation-26 = isolation-by all26 tt

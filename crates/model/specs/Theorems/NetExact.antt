@@ -1,4 +1,4 @@
--- After every batch the net lists, the neighbour lists and their sizes are exact.
+-- After every batch the net lists, the masks and their sizes are exact.
 use Prim.Native.Nat.{_≤_}
 use native.Mathlib.Omega.{arith}
 use mathlib.Core.Path.{_≡_, sym, subst}
@@ -9,11 +9,10 @@ use lib.ListN.{length}
 use Rattle.model.specs.Lists.{keep, has, run, values}
 use Rattle.model.specs.Cells.{Cell, same, below}
 use Rattle.model.specs.Occupancy.{Occupancy, Batch, events, nothing, occupied, startBatch, playBatch}
-use Rattle.model.specs.Flood.{listOf}
+use Rattle.model.specs.Masks.{masked}
 use Rattle.model.specs.Laws.Members.{keep-shorter}
 use Rattle.model.specs.Laws.Sorted.{Asc, keep-asc}
-use Rattle.model.specs.Laws.Occupied.{Exact, Sound, nothing-sound, batch-sound, occupied-asc, events-keep}
-use Rattle.model.specs.Laws.Floods.{listOf-exact}
+use Rattle.model.specs.Laws.Occupied.{Sound, nothing-sound, batch-sound, occupied-asc, events-keep}
 use Rattle.model.specs.Laws.Net.{Net, batch-net, plays-gains, Gains, Inside, EntersIn, pass-inside, trace-in, events-in}
 
 -- The net lists of `now` since `was`: exactly the cells occupied now and not before, and exactly those occupied before and not now,
@@ -24,30 +23,30 @@ pub record Since (was now : Occupancy) : Type 0 where
   pub opened-ascends : Asc below (now .newlyOccupied)
   pub emptied-ascends : Asc below (now .newlyEmptied)
 
-module _ (touch : Cell → Cell → Bool) (flip : (a b : Cell) → T (touch a b) → T (touch b a)) (apart : (a : Cell) → T (touch a a) → ⊥) where
+module _ (touch : Cell → Cell → Bool) where
   -- Every history of batches leads to a sound occupancy.
   pub history-sound : (bs : List Batch) → Sound touch (run (λ o b. playBatch touch b o) nothing bs)
   history-sound bs = from bs nothing (nothing-sound touch)
     where
       from : (bs : List Batch) (o : Occupancy) → Sound touch o → Sound touch (run (λ o b. playBatch touch b o) o bs)
       from [] o ok = ok
-      from (b ∷ bs) o ok = from bs (playBatch touch b o) (batch-sound touch flip apart b o ok)
+      from (b ∷ bs) o ok = from bs (playBatch touch b o) (batch-sound touch b o ok)
 
   module _ (b : Batch) (o : Occupancy) (ok : Sound touch o) where
     -- After a batch the net lists are the difference since it began.
     pub net-exact : Since o (playBatch touch b o)
     net-exact =
-        let net : Net (occupied o) (playBatch touch b o) = batch-net touch flip apart b o ok in
+        let net : Net (occupied o) (playBatch touch b o) = batch-net touch b o ok in
         record {
           opened = net .opened;
           emptied = net .emptied;
-          opened-ascends = subst (Asc below) (sym (net .opened)) (keep-asc _ _ (occupied-asc touch _ (batch-sound touch flip apart b o ok)));
+          opened-ascends = subst (Asc below) (sym (net .opened)) (keep-asc _ _ (occupied-asc touch _ (batch-sound touch b o ok)));
           emptied-ascends = subst (Asc below) (sym (net .emptied)) (keep-asc _ _ (occupied-asc touch o ok));
         }
 
-    -- After a batch the list of each occupied cell holds each touching occupied cell once and no other.
-    pub lists-exact : (c : Cell) → Mem c (occupied (playBatch touch b o)) → Exact touch (occupied (playBatch touch b o)) c (listOf (playBatch touch b o .lists) c)
-    lists-exact c m = listOf-exact touch (playBatch touch b o) (batch-sound touch flip apart b o ok) m
+    -- After a batch the mask of each occupied cell has exactly the bits of touching occupied cells.
+    pub masks-exact : playBatch touch b o .masks ≡ masked touch (occupied (playBatch touch b o))
+    masks-exact = batch-sound touch b o ok .exact
 
     -- There are no more newly occupied cells than occupied ones, and no more newly emptied cells than were occupied.
     pub net-sizes : (length (playBatch touch b o .newlyOccupied) ≤ length (occupied (playBatch touch b o))) × (length (playBatch touch b o .newlyEmptied) ≤ length (occupied o))

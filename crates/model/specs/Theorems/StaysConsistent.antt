@@ -39,10 +39,10 @@ module _ (touch : Cell → Cell → Bool) (laws : Touching touch) where
     steady′ = accepted-steady touch laws s (steady-of touch s ok) b
 
     net : Since o o′
-    net = net-exact touch (laws .flip) (laws .apart) b o (ok .sound)
+    net = net-exact touch b o (ok .sound)
 
     sizes : (length (o′ .newlyOccupied) ≤ length (occupied o′)) × (length (o′ .newlyEmptied) ≤ length (occupied o))
-    sizes = net-sizes touch (laws .flip) (laws .apart) b o (ok .sound)
+    sizes = net-sizes touch b o (ok .sound)
 
     within′ : Within touch o′
     within′ = unbroken-within touch (events b) (startBatch o) (yes .unbroken) (record { entities = ok .few-entities; cells = ok .few-cells })

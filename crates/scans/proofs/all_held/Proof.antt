@@ -19,7 +19,7 @@ use Rattle.table.proofs.cell_at.Reads as cell-at-reads
 
 -- Whether a cell is held as wanted.
 abbrev held : List ℕ → ℕ → Bool → Cell → Bool
-held cells m wanted c = cond wanted (has same (keys (table4 30 m cells)) c) (not (has same (keys (table4 30 m cells)) c))
+held cells m wanted c = cond wanted (has same (keys (table4 5 m cells)) c) (not (has same (keys (table4 5 m cells)) c))
 
 abbrev Inv-loop : tie.InvT-loop
 Inv-loop net n cells m wanted i₀ i = all (held cells m wanted) (netIn n net) ≡ all (held cells m wanted) (drop i (netIn n net))
@@ -44,7 +44,7 @@ returns c =
     let l = c .before .before .before .before in
     let s = c .before .before .before .before .before .before .before in
     sym (l .loop .inv ∙ all-no (net-lines (s .args .n) (s .args .net .now)) (held (s .args .cells .now) (s .args .m) (s .args .wanted)) (l .loop .i) (c .before .before .before .loop-test .taken)
-    (ap (λ b. cond (s .args .wanted) b (not b)) (ap (has same (keys (table4 30 (s .args .m) (s .args .cells .now)))) (sym (c .before .before .cell-at .ensures)) ∙ sym (c .before .contains .ensures)) ∙ not-wanted (s .args .wanted) (c .before .contains .result) (c .if1 .taken)))
+    (ap (λ b. cond (s .args .wanted) b (not b)) (ap (has same (keys (table4 5 (s .args .m) (s .args .cells .now)))) (sym (c .before .before .cell-at .ensures)) ∙ sym (c .before .contains .ensures)) ∙ not-wanted (s .args .wanted) (c .before .contains .result) (c .if1 .taken)))
 
 add-i : tie.Need-add-i Inv-loop μ-loop
 add-i c = search needs
@@ -57,7 +57,7 @@ loop-again c =
     let l = c .before .before .before .before in
     let s = c .before .before .before .before .before .before .before in
     l .loop .inv ∙ all-next (net-lines (s .args .n) (s .args .net .now)) (held (s .args .cells .now) (s .args .m) (s .args .wanted)) (l .loop .i) (c .before .before .before .loop-test .taken)
-    (ap (λ b. cond (s .args .wanted) b (not b)) (ap (has same (keys (table4 30 (s .args .m) (s .args .cells .now)))) (sym (c .before .before .cell-at .ensures)) ∙ sym (c .before .contains .ensures)) ∙ as-wanted (s .args .wanted) (c .before .contains .result) (c .if1 .left))
+    (ap (λ b. cond (s .args .wanted) b (not b)) (ap (has same (keys (table4 5 (s .args .m) (s .args .cells .now)))) (sym (c .before .before .cell-at .ensures)) ∙ sym (c .before .contains .ensures)) ∙ as-wanted (s .args .wanted) (c .before .contains .result) (c .if1 .left))
 
 returns-2 : tie.Need-returns-2 Inv-loop μ-loop
 returns-2 c =

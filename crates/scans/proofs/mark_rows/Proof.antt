@@ -27,8 +27,8 @@ use Rattle.table.proofs.find4.Reads as find4-reads
 abbrev Inv-loop : tie.InvT-loop
 Inv-loop ents n cells m marks₀ i₀ marks i =
     (length marks ≡ length marks₀)
-    × (all (has same (keys (table4 30 m cells))) (values (entitiesIn n ents)) ≡ all (has same (keys (table4 30 m cells))) (drop i (values (entitiesIn n ents))))
-    × Marked (take i (values (entitiesIn n ents))) (λ j. cellAt cells (30 * j)) m marks
+    × (all (has same (keys (table4 5 m cells))) (values (entitiesIn n ents)) ≡ all (has same (keys (table4 5 m cells))) (drop i (values (entitiesIn n ents))))
+    × Marked (take i (values (entitiesIn n ents))) (λ j. cellAt cells (5 * j)) m marks
 
 abbrev μ-loop : tie.MeasureT-loop
 μ-loop ents n cells m marks₀ i₀ marks i = n - i
@@ -53,12 +53,12 @@ enum-known-p c = search needs
 
 -- What was found.
 found : (c : tie.After-known-told Inv-loop μ-loop)
-    → Found (c .before .p .given .0 .0) ≡ placeOf below (keys (table4 30 (c .before .before .before .before .before .before .before .before .before .before .args .m) (c .before .before .before .before .before .before .before .before .before .before .args .cells .now))) (cellAt (c .before .before .before .before .before .before .before .before .before .before .args .ents .now) (5 * c .before .before .before .before .before .before .loop .i + 1))
-found c = let s = c .before .before .before .before .before .before .before .before .before .before in sym (c .before .p .given .1) ∙ c .before .before .before .find4 .ensures ∙ ap (placeOf below (keys (table4 30 (s .args .m) (s .args .cells .now)))) (c .before .before .before .before .cell-at .ensures)
+    → Found (c .before .p .given .0 .0) ≡ placeOf below (keys (table4 5 (c .before .before .before .before .before .before .before .before .before .before .args .m) (c .before .before .before .before .before .before .before .before .before .before .args .cells .now))) (cellAt (c .before .before .before .before .before .before .before .before .before .before .args .ents .now) (5 * c .before .before .before .before .before .before .loop .i + 1))
+found c = let s = c .before .before .before .before .before .before .before .before .before .before in sym (c .before .p .given .1) ∙ c .before .before .before .find4 .ensures ∙ ap (placeOf below (keys (table4 5 (s .args .m) (s .args .cells .now)))) (c .before .before .before .before .cell-at .ensures)
 
 -- The row that was found is there.
 here : (c : tie.After-known-told Inv-loop μ-loop) → c .before .p .given .0 .0 < c .before .before .before .before .before .before .before .before .before .before .args .m
-here c = let s = c .before .before .before .before .before .before .before .before .before .before in found-below cell cell-lawful 30 (s .args .m) (s .args .cells .now) _ (c .before .p .given .0 .0) (found c)
+here c = let s = c .before .before .before .before .before .before .before .before .before .before in found-below cell cell-lawful 5 (s .args .m) (s .args .cells .now) _ (c .before .p .given .0 .0) (found c)
 
 mul-marks : tie.Need-mul-marks Inv-loop μ-loop
 mul-marks c = let h = here c in let g = c .before .before .before .before .before .before .before .before .before .before .pre .space in let e = c .before .before .before .before .before .before .loop .inv .0 in omega arith
@@ -81,7 +81,7 @@ loop-again c =
     let g = s .pre .space in
     let k = l .loop .inv .0 in (
       length-set (l .loop .marks) (c .before .p .given .0 .0) 1 ∙ k,
-      l .loop .inv .1 ∙ all-next e (has same (keys (table4 30 (s .args .m) (s .args .cells .now)))) (l .loop .i) h (sym (is-among cell cell-lawful 30 (s .args .m) (s .args .cells .now) (s .pre .table) _ (Found (c .before .p .given .0 .0)) (found c))),
+      l .loop .inv .1 ∙ all-next e (has same (keys (table4 5 (s .args .m) (s .args .cells .now)))) (l .loop .i) h (sym (is-among cell cell-lawful 5 (s .args .m) (s .args .cells .now) (s .pre .table) _ (Found (c .before .p .given .0 .0)) (found c))),
       marked-more (s .args .cells .now) (s .args .m) (s .pre .table) (l .loop .marks) (l .loop .i) (c .before .p .given .0 .0) e h (omega arith) (found c) (l .loop .inv .2),
     )
 
@@ -96,8 +96,8 @@ returns c =
     let s = c .before .before .before .before .before .before .before .before .before in
     let l = c .before .before .before .before .before in
     let e = entity-lines (s .args .n) (s .args .ents .now) in (
-      sym (l .loop .inv .1 ∙ all-no e (has same (keys (table4 30 (s .args .m) (s .args .cells .now)))) (l .loop .i) (c .before .before .before .before .loop-test .taken)
-          (sym (is-among cell cell-lawful 30 (s .args .m) (s .args .cells .now) (s .pre .table) _ (Missing _) (sym (c .enum-told .given .1) ∙ c .before .before .find4 .ensures ∙ ap (placeOf below (keys (table4 30 (s .args .m) (s .args .cells .now)))) (c .before .before .before .cell-at .ensures))))),
+      sym (l .loop .inv .1 ∙ all-no e (has same (keys (table4 5 (s .args .m) (s .args .cells .now)))) (l .loop .i) (c .before .before .before .before .loop-test .taken)
+          (sym (is-among cell cell-lawful 5 (s .args .m) (s .args .cells .now) (s .pre .table) _ (Missing _) (sym (c .enum-told .given .1) ∙ c .before .before .find4 .ensures ∙ ap (placeOf below (keys (table4 5 (s .args .m) (s .args .cells .now)))) (c .before .before .before .cell-at .ensures))))),
       λ f. absurd (true-false f refl),
       l .loop .inv .0,
     )
@@ -112,8 +112,8 @@ returns-2 c =
     let e = entity-lines (s .args .n) (s .args .ents .now) in
     let g = e .len in
     let h = c .loop-test .left in (
-      sym (l .loop .inv .1 ∙ all-end e (has same (keys (table4 30 (s .args .m) (s .args .cells .now)))) (l .loop .i) h),
-      λ f. subst (λ (k : List Cell). Marked k (λ j. cellAt (s .args .cells .now) (30 * j)) (s .args .m) (l .loop .marks)) (take-all (l .loop .i) (values (entitiesIn (s .args .n) (s .args .ents .now))) (omega arith)) (l .loop .inv .2),
+      sym (l .loop .inv .1 ∙ all-end e (has same (keys (table4 5 (s .args .m) (s .args .cells .now)))) (l .loop .i) h),
+      λ f. subst (λ (k : List Cell). Marked k (λ j. cellAt (s .args .cells .now) (5 * j)) (s .args .m) (l .loop .marks)) (take-all (l .loop .i) (values (entitiesIn (s .args .n) (s .args .ents .now))) (omega arith)) (l .loop .inv .2),
       l .loop .inv .0,
     )
 

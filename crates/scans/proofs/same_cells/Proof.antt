@@ -17,7 +17,7 @@ use Rattle.component.proofs.same_cell.Reads as same-cell-reads
 use Rattle.table.proofs.cell_at.Reads as cell-at-reads
 
 abbrev Inv-loop : tie.InvT-loop
-Inv-loop cells ids n i₀ i = equal same (keys (table4 5 n ids)) (keys (table4 30 n cells)) ≡ equal same (drop i (keys (table4 5 n ids))) (drop i (keys (table4 30 n cells)))
+Inv-loop cells ids n i₀ i = equal same (keys (table4 5 n ids)) (keys (table4 5 n cells)) ≡ equal same (drop i (keys (table4 5 n ids))) (drop i (keys (table4 5 n cells)))
 
 abbrev μ-loop : tie.MeasureT-loop
 μ-loop cells ids n i₀ i = n - i
@@ -44,7 +44,7 @@ returns : tie.Need-returns Inv-loop μ-loop
 returns c =
     let s = c .before .before .before .before .before .before .before .before in
     let l = c .before .before .before .before .before in
-    sym (l .loop .inv ∙ equal-no same (key-lines 5 (s .args .n) (s .args .ids .now) (omega arith)) (key-lines 30 (s .args .n) (s .args .cells .now) (omega arith)) (l .loop .i) (c .before .before .before .before .loop-test .taken)
+    sym (l .loop .inv ∙ equal-no same (key-lines 5 (s .args .n) (s .args .ids .now) (omega arith)) (key-lines 5 (s .args .n) (s .args .cells .now) (omega arith)) (l .loop .i) (c .before .before .before .before .loop-test .taken)
     ((λ i. same (sym (c .before .before .before .cell-at .ensures) i) (sym (c .before .before .cell-at2 .ensures) i)) ∙ sym (c .before .same-cell .ensures) ∙ not-true _ (c .if1 .taken)))
 
 add-i : tie.Need-add-i Inv-loop μ-loop
@@ -57,14 +57,14 @@ loop-again : tie.Need-loop-again Inv-loop μ-loop
 loop-again c =
     let s = c .before .before .before .before .before .before .before .before in
     let l = c .before .before .before .before .before in
-    l .loop .inv ∙ equal-next same (key-lines 5 (s .args .n) (s .args .ids .now) (omega arith)) (key-lines 30 (s .args .n) (s .args .cells .now) (omega arith)) (l .loop .i) (c .before .before .before .before .loop-test .taken)
+    l .loop .inv ∙ equal-next same (key-lines 5 (s .args .n) (s .args .ids .now) (omega arith)) (key-lines 5 (s .args .n) (s .args .cells .now) (omega arith)) (l .loop .i) (c .before .before .before .before .loop-test .taken)
     ((λ i. same (sym (c .before .before .before .cell-at .ensures) i) (sym (c .before .before .cell-at2 .ensures) i)) ∙ sym (c .before .same-cell .ensures) ∙ not-false _ (c .if1 .left))
 
 returns-2 : tie.Need-returns-2 Inv-loop μ-loop
 returns-2 c =
     let s = c .before .before .before .before in
     let l = c .before in
-    sym (l .loop .inv ∙ equal-end same (key-lines 5 (s .args .n) (s .args .ids .now) (omega arith)) (key-lines 30 (s .args .n) (s .args .cells .now) (omega arith)) (l .loop .i) (c .loop-test .left))
+    sym (l .loop .inv ∙ equal-end same (key-lines 5 (s .args .n) (s .args .ids .now) (omega arith)) (key-lines 5 (s .args .n) (s .args .cells .now) (omega arith)) (l .loop .i) (c .loop-test .left))
 
 pub same-cells-spec : {M : Type 1} → statement M
 same-cells-spec =

@@ -51,21 +51,21 @@ or-false false = refl
 pub marked-none : (at : ℕ → Cell) (m : ℕ) (marks : List ℕ) → ((j : ℕ) → j < m → getD marks j 0 ≡ 0) → Marked [] at m marks
 marked-none at m marks f = record { is = λ j h. ap (ltb 0) (f j h) }
 
-module _ (s : List ℕ) (m : ℕ) (ok : isTable4 30 m s ≡ true) where
+module _ (s : List ℕ) (m : ℕ) (ok : isTable4 5 m s ≡ true) where
   abbrev K : List Cell
-  K = keys (table4 30 m s)
+  K = keys (table4 5 m s)
 
   abbrev at : ℕ → Cell
-  at j = cellAt s (30 * j)
+  at j = cellAt s (5 * j)
 
   keyed : Lines K m at
-  keyed = key-lines 30 m s (omega arith)
+  keyed = key-lines 5 m s (omega arith)
 
   -- Rows with the same cell are the same row.
   rows-differ : (j k : ℕ) → j < m → k < m → at j ≡ at k → j ≡ k
   rows-differ j k h g e =
       let l : length K ≡ m = keyed .len in
-      asc-index cells K j k (at 0) (table-facts cell 30 m s ok .asc) (omega arith) (omega arith)
+      asc-index cells K j k (at 0) (table-facts cell 5 m s ok .asc) (omega arith) (omega arith)
       (lines-at keyed j h (at 0) ∙ e ∙ sym (lines-at keyed k g (at 0)))
 
   -- The row of a cell that is found is marked.
@@ -74,7 +74,7 @@ module _ (s : List ℕ) (m : ℕ) (ok : isTable4 30 m s ≡ true) where
   marked-more {l} {n} {e} marks i j r h fit f q = record { is = now }
     where
       there : at j ≡ e i
-      there = sym (lines-at keyed j (found-below cell cell-lawful 30 m s (e i) j f) (e i)) ∙ found-is cell cell-lawful 30 m s (e i) j (e i) f
+      there = sym (lines-at keyed j (found-below cell cell-lawful 5 m s (e i) j f) (e i)) ∙ found-is cell cell-lawful 5 m s (e i) j (e i) f
 
       more : take (i + 1) l ≡ take i l ++ e i ∷ []
       more =
@@ -89,12 +89,12 @@ module _ (s : List ℕ) (m : ℕ) (ok : isTable4 30 m s ≡ true) where
           ⊎-elim
           (λ p.
           ap (λ x. ltb 0 (getD (set marks j 1) x 0)) p
-          ∙ ap (ltb 0) (getD-set-same marks j 1 0 (let b = found-below cell cell-lawful 30 m s (e i) j f in omega arith))
+          ∙ ap (ltb 0) (getD-set-same marks j 1 0 (let b = found-below cell cell-lawful 5 m s (e i) j f in omega arith))
           ∙ sym (has-more (at k) ∙ ap (λ b. has same (take i l) (at k) || b) (true-of (same (at k) (e i)) (subst (λ x. T (same (at k) x)) (ap at p ∙ there) (cells .same-self (at k)))) ∙ or-true (has same (take i l) (at k))))
           (λ p.
           ap (ltb 0) (getD-set-other marks j k 1 0 p)
           ∙ q .is k g
-          ∙ sym (has-more (at k) ∙ ap (λ b. has same (take i l) (at k) || b) (false-of (same (at k) (e i)) (differ cells (λ x. p (rows-differ k j g (found-below cell cell-lawful 30 m s (e i) j f) (x ∙ sym there))))) ∙ or-false (has same (take i l) (at k))))
+          ∙ sym (has-more (at k) ∙ ap (λ b. has same (take i l) (at k) || b) (false-of (same (at k) (e i)) (differ cells (λ x. p (rows-differ k j g (found-below cell cell-lawful 5 m s (e i) j f) (x ∙ sym there))))) ∙ or-false (has same (take i l) (at k))))
           (is-or numbers k j)
 
   -- Where some entity's cell has no row, the cells are not those where entities stand.
@@ -123,7 +123,7 @@ module _ (s : List ℕ) (m : ℕ) (ok : isTable4 30 m s ≡ true) where
       to : T (all (ltb 0) (take m marks)) → T (equal same K (ascending below l))
       to t =
           equal-in same (cells .same-self)
-          (asc-equal cells K (ascending below l) (table-facts cell 30 m s ok .asc) (ascending-asc cells l)
+          (asc-equal cells K (ascending below l) (table-facts cell 5 m s ok .asc) (ascending-asc cells l)
           (λ a k.
           let r = mem-getD K (at 0) k in
           let g : length K ≡ m = keyed .len in
@@ -145,7 +145,7 @@ module _ (s : List ℕ) (m : ℕ) (ok : isTable4 30 m s ≡ true) where
   stood-yes {l} {marks} k e g h q f = f ∙ stood-is l marks e (omega arith) q
 
 -- Marks that are not set.
-pub cleared : (ents : List ℕ) (n : ℕ) (words : List ℕ) (m k : ℕ) → isTable4 30 m words ≡ true → 5 * n ≤ length ents → m ≤ k → Markable ents n words m (replicate k 0)
+pub cleared : (ents : List ℕ) (n : ℕ) (words : List ℕ) (m k : ℕ) → isTable4 5 m words ≡ true → 5 * n ≤ length ents → m ≤ k → Markable ents n words m (replicate k 0)
 cleared ents n words m k ok h g =
     let l = length-replicate {A = ℕ} k 0 in
     record { table = ok; there = h; space = omega arith; clear = λ j i. getD-replicate k j 0 0 (omega arith) }

@@ -9,7 +9,7 @@ use Rattle.model.specs.Cells.{Cell}
 use Rattle.model.specs.Laws.Members.{each-each}
 use Rattle.table.specs.Rows.{Kind, number, cell, cellAt, rowsOf, entryOf, tableOf, table1, table4}
 use Rattle.table.specs.Laws.Words.{table-length, keys-length, entry-at, rest-at, cell-at}
-use Rattle.layout.specs.Rows.{entityOf, cellOf, idOf, entitiesIn, cellsIn, netIn, idsIn}
+use Rattle.layout.specs.Rows.{entityOf, idOf, entitiesIn, cellsIn, netIn, idsIn}
 use Rattle.scans.specs.Scans.{Lines}
 use Rattle.scans.specs.Laws.Scans.{lines-of, lines-as, lines-each}
 
@@ -47,9 +47,9 @@ id-lines n s =
     (λ i h. rest-at 5 n s i 4 0 h (omega arith))
 
 -- The keys of the occupied cells are those of their rows.
-pub cells-keys : (n : ℕ) (s : List ℕ) → keys (cellsIn n s) ≡ keys (table4 30 n s)
+pub cells-keys : (n : ℕ) (s : List ℕ) → keys (cellsIn n s) ≡ keys (table4 5 n s)
 unfolding cellsIn
-cells-keys n s = each-each (λ (p : Cell × List Cell). p .0) cellOf (table4 30 n s)
+cells-keys n s = each-each (λ (p : Cell × ℕ). p .0) idOf (table4 5 n s)
 
 -- The keys of the cells with ids are those of their rows.
 pub ids-keys : (n : ℕ) (s : List ℕ) → keys (idsIn n s) ≡ keys (table4 5 n s)

@@ -65,7 +65,7 @@ returns c =
     let d = c .before .before .before .before .crowd-of in
     let n = r .ensures ∙ p .0 .stands .entity-count in
     let e = entities-loaded w (p .0) 8 20488 (s .args .ents .now) (p .1) (l .last .1 .1 .1 .0) (l .ensures) (l .kept .1 .1 .1 .0) entities-at cells-at (p .2) in
-    let f = cells-loaded w (p .0) 20488 51208 (s .args .cells .now) (p .3) (k .last .1 .1 .1 .0) (k .ensures) (k .kept .1 .1 .1 .0) cells-at occupied-at (p .4) in
+    let f = cells-loaded w (p .0) 20488 25608 (s .args .cells .now) (p .3) (k .last .1 .1 .1 .0) (k .ensures) (k .kept .1 .1 .1 .0) cells-at occupied-at (p .4) in
     map-opened w (p .0) (r .result) n (l .last .1 .1 .1 .0) e (k .last .1 .1 .1 .0) f (s .args .crowd .now) (d .last .1 .1 .0) (d .kept .1 .1 .0) (d .ensures .1) _ refl (c .rows2 .ensures) refl refl
 
 pub open-map-spec : {M : Type 1} → statement M

@@ -44,7 +44,7 @@ regroup-requires c κs =
       decode (a .state .now) .groups,
       o,
       e,
-      regroup-ready (a .state .now) (a .ids .now) (a .groups .now) (a .occ .now) (a .p) (a .emp .now) (a .m) o e x 59400 64520 ids-at groups-at (l .last .1 .1 .1 .0) (l .ensures) (l .kept .1 .1 .1 .0) (n .result) (nextId (a .state .now)) (n .ensures) refl,
+      regroup-ready (a .state .now) (a .ids .now) (a .groups .now) (a .occ .now) (a .p) (a .emp .now) (a .m) o e x 33800 38920 ids-at groups-at (l .last .1 .1 .1 .0) (l .ensures) (l .kept .1 .1 .1 .0) (n .result) (nextId (a .state .now)) (n .ensures) refl,
       x .opened,
       x .emptied,
       omega (arith, n .ensures, k .stands .id-count, ids-room (length (decode (a .state .now) .groups .ids)) (k .fits .ids), x .opened-few, x .ids-room, l .kept .1 .1 .1 .0),
@@ -62,7 +62,7 @@ build-records-requires c κs =
     let o = s .pre .0 in
     let e = s .pre .1 in
     let x = s .pre .2 in
-    let h = c .before .before .before .before .regroup .ensures (decode (a .state .now) .groups) o e (regroup-ready (a .state .now) (a .ids .now) (a .groups .now) (a .occ .now) (a .p) (a .emp .now) (a .m) o e x 59400 64520 ids-at groups-at (l .last .1 .1 .1 .0) (l .ensures) (l .kept .1 .1 .1 .0) (n .result) (nextId (a .state .now)) (n .ensures) refl) (x .opened) (x .emptied) in
+    let h = c .before .before .before .before .regroup .ensures (decode (a .state .now) .groups) o e (regroup-ready (a .state .now) (a .ids .now) (a .groups .now) (a .occ .now) (a .p) (a .emp .now) (a .m) o e x 33800 38920 ids-at groups-at (l .last .1 .1 .1 .0) (l .ensures) (l .kept .1 .1 .1 .0) (n .result) (nextId (a .state .now)) (n .ensures) refl) (x .opened) (x .emptied) in
     (regroup touch26 o e (decode (a .state .now) .groups) .ids, plain (h .rows), x .groups-blank, omega (arith, h .rows .count, x .few, x .groups-room))
 
 same-length : tie.Need-same-length
@@ -80,7 +80,7 @@ returns c =
     let r = c .before .before .before .before .before .before .before .regroup in
     let q = c .before .before .build-records in
     λ o e x.
-    let h = r .ensures (decode (a .state .now) .groups) o e (regroup-ready (a .state .now) (a .ids .now) (a .groups .now) (a .occ .now) (a .p) (a .emp .now) (a .m) o e x 59400 64520 ids-at groups-at (l .last .1 .1 .1 .0) (l .ensures) (l .kept .1 .1 .1 .0) (n .result) (nextId (a .state .now)) (n .ensures) refl) (x .opened) (x .emptied) in
+    let h = r .ensures (decode (a .state .now) .groups) o e (regroup-ready (a .state .now) (a .ids .now) (a .groups .now) (a .occ .now) (a .p) (a .emp .now) (a .m) o e x 33800 38920 ids-at groups-at (l .last .1 .1 .1 .0) (l .ensures) (l .kept .1 .1 .1 .0) (n .result) (nextId (a .state .now)) (n .ensures) refl) (x .opened) (x .emptied) in
     record { ids-held = h; groups-held = q .ensures (regroup touch26 o e (decode (a .state .now) .groups) .ids) (plain (h .rows)) }
 
 pub regroup-state-spec : {M : Type 1} → statement M

@@ -25,7 +25,7 @@ slice-aggregate-open-map-3 c = refl
 open-map-requires : tie.Need-open-map-requires
 open-map-requires c κs =
     let k = c .before .before .before .before .before .before .pre .0 in
-    (k, zeros-blank 20485, omega (arith, entities-words, length-replicate {A = ℕ} 20485 0), zeros-blank 30750, omega (arith, cells-words, length-replicate {A = ℕ} 30750 0), zeros-blank 5125, omega (arith, length-replicate {A = ℕ} 5125 0))
+    (k, zeros-blank 20485, omega (arith, entities-words, length-replicate {A = ℕ} 20485 0), zeros-blank 5125, omega (arith, cells-words, length-replicate {A = ℕ} 5125 0), zeros-blank 5125, omega (arith, length-replicate {A = ℕ} 5125 0))
 
 slice-aggregate-play-batch : tie.Need-slice-aggregate-play-batch
 slice-aggregate-play-batch c =
@@ -33,7 +33,7 @@ slice-aggregate-play-batch c =
 
 slice-aggregate-play-batch-2 : tie.Need-slice-aggregate-play-batch-2
 slice-aggregate-play-batch-2 c =
-    sym (c .before .before .before .before .before .open-map .kept .1 .1 .0 ∙ length-replicate {A = ℕ} 30750 0)
+    sym (c .before .before .before .before .before .open-map .kept .1 .1 .0 ∙ length-replicate {A = ℕ} 5125 0)
 
 slice-aggregate-play-batch-3 : tie.Need-slice-aggregate-play-batch-3
 slice-aggregate-play-batch-3 c =
@@ -51,7 +51,7 @@ play-batch-requires c κs =
     let w = s .args .state .now in
     let k = s .pre .0 in
     let q = c .before .before .before .before .before .before .before .before .open-map in
-    let d = (work-ready w k (q .last .1 .0) (q .last .1 .1 .0) (q .last .1 .1 .1 .0) (replicate 4100 0) (replicate 4100 0) (q .result) (q .ensures) (q .kept .1 .0 ∙ length-replicate {A = ℕ} 20485 0) (q .kept .1 .1 .0 ∙ length-replicate {A = ℕ} 30750 0) (q .kept .1 .1 .1 .0 ∙ length-replicate {A = ℕ} 5125 0) (zeros-blank 4100) (length-replicate {A = ℕ} 4100 0) (zeros-blank 4100) (length-replicate {A = ℕ} 4100 0)) in
+    let d = (work-ready w k (q .last .1 .0) (q .last .1 .1 .0) (q .last .1 .1 .1 .0) (replicate 4100 0) (replicate 4100 0) (q .result) (q .ensures) (q .kept .1 .0 ∙ length-replicate {A = ℕ} 20485 0) (q .kept .1 .1 .0 ∙ length-replicate {A = ℕ} 5125 0) (q .kept .1 .1 .1 .0 ∙ length-replicate {A = ℕ} 5125 0) (zeros-blank 4100) (length-replicate {A = ℕ} 4100 0) (zeros-blank 4100) (length-replicate {A = ℕ} 4100 0)) in
     (occupied (decode w .occupancy), startBatch (decode w .occupancy), d, s .pre .1, early-ranged (nextId w) (s .args .batch .now) (s .args .removals) (s .args .moves) (s .pre .2))
 
 same-length : tie.Need-same-length
@@ -63,7 +63,7 @@ returns c =
     let w = s .args .state .now in
     let k = s .pre .0 in
     let q = c .before .before .before .before .before .before .before .before .before .before .before .before .before .before .before .open-map in
-    let d = (work-ready w k (q .last .1 .0) (q .last .1 .1 .0) (q .last .1 .1 .1 .0) (replicate 4100 0) (replicate 4100 0) (q .result) (q .ensures) (q .kept .1 .0 ∙ length-replicate {A = ℕ} 20485 0) (q .kept .1 .1 .0 ∙ length-replicate {A = ℕ} 30750 0) (q .kept .1 .1 .1 .0 ∙ length-replicate {A = ℕ} 5125 0) (zeros-blank 4100) (length-replicate {A = ℕ} 4100 0) (zeros-blank 4100) (length-replicate {A = ℕ} 4100 0)) in
+    let d = (work-ready w k (q .last .1 .0) (q .last .1 .1 .0) (q .last .1 .1 .1 .0) (replicate 4100 0) (replicate 4100 0) (q .result) (q .ensures) (q .kept .1 .0 ∙ length-replicate {A = ℕ} 20485 0) (q .kept .1 .1 .0 ∙ length-replicate {A = ℕ} 5125 0) (q .kept .1 .1 .1 .0 ∙ length-replicate {A = ℕ} 5125 0) (zeros-blank 4100) (length-replicate {A = ℕ} 4100 0) (zeros-blank 4100) (length-replicate {A = ℕ} 4100 0)) in
     let m = batchOf (s .args .batch .now) (s .args .removals) (s .args .moves) in
     let p = c .before .before .before .before .before .before .play-batch in
     let x = p .ensures (occupied (decode w .occupancy)) (startBatch (decode w .occupancy)) d in
@@ -75,7 +75,7 @@ slice-aggregate-finish c =
 
 slice-aggregate-finish-2 : tie.Need-slice-aggregate-finish-2
 slice-aggregate-finish-2 c =
-    sym (c .before .before .before .before .before .before .before .before .before .before .play-batch .kept .1 .0 ∙ c .before .before .before .before .before .before .before .before .before .before .before .before .before .before .before .before .before .before .before .open-map .kept .1 .1 .0 ∙ length-replicate {A = ℕ} 30750 0)
+    sym (c .before .before .before .before .before .before .before .before .before .before .play-batch .kept .1 .0 ∙ c .before .before .before .before .before .before .before .before .before .before .before .before .before .before .before .before .before .before .before .open-map .kept .1 .1 .0 ∙ length-replicate {A = ℕ} 5125 0)
 
 slice-aggregate-finish-3 : tie.Need-slice-aggregate-finish-3
 slice-aggregate-finish-3 c =
@@ -91,14 +91,14 @@ finish-requires c κs =
     let w = s .args .state .now in
     let k = s .pre .0 in
     let q = c .before .before .before .before .before .before .before .before .before .before .before .before .before .before .before .before .before .before .before .before .before .open-map in
-    let d = (work-ready w k (q .last .1 .0) (q .last .1 .1 .0) (q .last .1 .1 .1 .0) (replicate 4100 0) (replicate 4100 0) (q .result) (q .ensures) (q .kept .1 .0 ∙ length-replicate {A = ℕ} 20485 0) (q .kept .1 .1 .0 ∙ length-replicate {A = ℕ} 30750 0) (q .kept .1 .1 .1 .0 ∙ length-replicate {A = ℕ} 5125 0) (zeros-blank 4100) (length-replicate {A = ℕ} 4100 0) (zeros-blank 4100) (length-replicate {A = ℕ} 4100 0)) in
+    let d = (work-ready w k (q .last .1 .0) (q .last .1 .1 .0) (q .last .1 .1 .1 .0) (replicate 4100 0) (replicate 4100 0) (q .result) (q .ensures) (q .kept .1 .0 ∙ length-replicate {A = ℕ} 20485 0) (q .kept .1 .1 .0 ∙ length-replicate {A = ℕ} 5125 0) (q .kept .1 .1 .1 .0 ∙ length-replicate {A = ℕ} 5125 0) (zeros-blank 4100) (length-replicate {A = ℕ} 4100 0) (zeros-blank 4100) (length-replicate {A = ℕ} 4100 0)) in
     let m = batchOf (s .args .batch .now) (s .args .removals) (s .args .moves) in
     let p = c .before .before .before .before .before .before .before .before .before .before .before .before .play-batch in
     let x = p .ensures (occupied (decode w .occupancy)) (startBatch (decode w .occupancy)) d in (
       m,
       can-finish w k m (s .pre .2) (p .result .number) (x .number) (c .before .before .before .before .before .before .if1 .left) (p .last .0) (p .last .1 .0) (p .last .1 .1 .0) (p .last .1 .1 .1 .0) (p .last .1 .1 .1 .1 .0) (p .result .counts) (x .ready (c .before .before .before .before .before .before .if1 .left)),
       omega (arith, entities-words, p .kept .0, q .kept .1 .0, length-replicate {A = ℕ} 20485 0),
-      omega (arith, cells-words, p .kept .1 .0, q .kept .1 .1 .0, length-replicate {A = ℕ} 30750 0),
+      omega (arith, cells-words, p .kept .1 .0, q .kept .1 .1 .0, length-replicate {A = ℕ} 5125 0),
       omega (arith, net-words, p .kept .1 .1 .1 .0, length-replicate {A = ℕ} 4100 0),
       omega (arith, net-words, p .kept .1 .1 .1 .1 .0, length-replicate {A = ℕ} 4100 0),
     )
@@ -112,7 +112,7 @@ returns-2 c =
     let w = s .args .state .now in
     let k = s .pre .0 in
     let q = c .before .before .before .before .before .before .before .before .before .before .before .before .before .before .before .before .before .before .before .before .before .before .before .before .open-map in
-    let d = (work-ready w k (q .last .1 .0) (q .last .1 .1 .0) (q .last .1 .1 .1 .0) (replicate 4100 0) (replicate 4100 0) (q .result) (q .ensures) (q .kept .1 .0 ∙ length-replicate {A = ℕ} 20485 0) (q .kept .1 .1 .0 ∙ length-replicate {A = ℕ} 30750 0) (q .kept .1 .1 .1 .0 ∙ length-replicate {A = ℕ} 5125 0) (zeros-blank 4100) (length-replicate {A = ℕ} 4100 0) (zeros-blank 4100) (length-replicate {A = ℕ} 4100 0)) in
+    let d = (work-ready w k (q .last .1 .0) (q .last .1 .1 .0) (q .last .1 .1 .1 .0) (replicate 4100 0) (replicate 4100 0) (q .result) (q .ensures) (q .kept .1 .0 ∙ length-replicate {A = ℕ} 20485 0) (q .kept .1 .1 .0 ∙ length-replicate {A = ℕ} 5125 0) (q .kept .1 .1 .1 .0 ∙ length-replicate {A = ℕ} 5125 0) (zeros-blank 4100) (length-replicate {A = ℕ} 4100 0) (zeros-blank 4100) (length-replicate {A = ℕ} 4100 0)) in
     let m = batchOf (s .args .batch .now) (s .args .removals) (s .args .moves) in
     let p = c .before .before .before .before .before .before .before .before .before .before .before .before .before .before .before .play-batch in
     let x = p .ensures (occupied (decode w .occupancy)) (startBatch (decode w .occupancy)) d in

@@ -24,7 +24,7 @@ returns c =
     let a = s .args in
     let k = c .before .before .before .before .before .before .store in
     let l = c .before .before .store2 in
-    λ w p g. back-written w (a .state .now) p (a .ids .now) (a .groups .now) g (s .pre .1) (s .pre .2) 59400 64520 5120 9216 ids-at groups-at ids-words groups-words (k .last .0) (l .last .0) (k .ensures) (l .ensures)
+    λ w p g. back-written w (a .state .now) p (a .ids .now) (a .groups .now) g (s .pre .1) (s .pre .2) 33800 38920 5120 9216 ids-at groups-at ids-words groups-words (k .last .0) (l .last .0) (k .ensures) (l .ensures)
 
 pub write-back-spec : {M : Type 1} → statement M
 write-back-spec = tie.close (tie.spec store-requires store-requires-2 same-length returns)

@@ -41,7 +41,7 @@ returns c =
     let k = c .before .before .before .before .before .before .store3 in
     let l = c .before .before .store4 in
     front-written (a .state .now) (a .head .now) (a .ents .now) (a .cells .now) (a .occ .now) (a .emp .now) (p .1) (p .2) (p .3) (p .4) (p .5)
-    8 20488 51208 55304 entities-at cells-at occupied-at emptied-at 20480 30720 4096 4096 entities-words cells-words net-words net-words
+    8 20488 25608 29704 entities-at cells-at occupied-at emptied-at 20480 5120 4096 4096 entities-words cells-words net-words net-words
     (r .last .0) (i .last .0) (j .last .0) (k .last .0) (l .last .0) (r .ensures) (i .ensures) (j .ensures) (k .ensures) (l .ensures)
 
 pub write-front-spec : {M : Type 1} → statement M

@@ -68,8 +68,8 @@ module _ (s : State) (f : Fits s) where
   pub entities-long : length (entitiesImage entitiesLen (s .occupancy .entities)) ≡ entitiesLen
   entities-long = entities-laws .long entitiesLen (s .occupancy .entities) (λ a m. tt) (entities-room (length (s .occupancy .entities)) (f .entities))
 
-  pub cells-long : length (cellsImage cellsLen (s .occupancy .lists)) ≡ cellsLen
-  cells-long = cells-laws .long cellsLen (s .occupancy .lists) (f .lists) (cells-room (length (s .occupancy .lists)) (f .cells))
+  pub cells-long : length (cellsImage cellsLen (s .occupancy .masks)) ≡ cellsLen
+  cells-long = cells-laws .long cellsLen (s .occupancy .masks) (λ a m. tt) (cells-room (length (s .occupancy .masks)) (f .cells))
 
   pub opened-long : length (netImage netLen (s .occupancy .newlyOccupied)) ≡ netLen
   opened-long = net-laws .long netLen (s .occupancy .newlyOccupied) (λ a m. tt) (net-room (length (s .occupancy .newlyOccupied)) (f .newly-occupied))

@@ -8,7 +8,7 @@ use lib.Seq.{slice, take-at, drop-at, take-add, length-take-le}
 use Rattle.model.specs.Lists.{gather, each}
 use Rattle.table.specs.Rows.{Kind, number, cell, rowOf, imageOf}
 use Rattle.table.specs.Moves.{over}
-use Rattle.layout.specs.Rows.{entityRow, cellRow, netRow, idRow, groupRow, entitiesImage, cellsImage, netImage, idsImage, groupsImage}
+use Rattle.layout.specs.Rows.{entityRow, netRow, idRow, groupRow, entitiesImage, cellsImage, netImage, idsImage, groupsImage}
 
 -- What is asked of an image: with more words it has more zeros.
 pub record Extends {A : Type 0} (image : ℕ → List A → List ℕ) : Type 0 where
@@ -30,7 +30,7 @@ entities-extend = record { more = λ len k t e. image-more number len k (each en
 
 pub cells-extend : Extends cellsImage
 unfolding cellsImage
-cells-extend = record { more = λ len k t e. image-more cell len k (each cellRow t) e }
+cells-extend = record { more = λ len k t e. image-more cell len k (each idRow t) e }
 
 pub net-extend : Extends netImage
 unfolding netImage

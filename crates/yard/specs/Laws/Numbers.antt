@@ -10,23 +10,23 @@ pub cells-at : 20488 ≡ cellsFrom
 unfolding cellsFrom
 cells-at = refl
 
-pub occupied-at : 51208 ≡ occupiedFrom
+pub occupied-at : 25608 ≡ occupiedFrom
 unfolding occupiedFrom
 occupied-at = refl
 
-pub emptied-at : 55304 ≡ emptiedFrom
+pub emptied-at : 29704 ≡ emptiedFrom
 unfolding emptiedFrom
 emptied-at = refl
 
-pub ids-at : 59400 ≡ idsFrom
+pub ids-at : 33800 ≡ idsFrom
 unfolding idsFrom
 ids-at = refl
 
-pub groups-at : 64520 ≡ groupsFrom
+pub groups-at : 38920 ≡ groupsFrom
 unfolding groupsFrom
 groups-at = refl
 
-pub state-ends : 73736 ≡ stateLen
+pub state-ends : 48136 ≡ stateLen
 unfolding stateLen
 state-ends = refl
 
@@ -34,7 +34,7 @@ pub entities-words : 20480 ≡ entitiesLen
 unfolding entitiesLen
 entities-words = refl
 
-pub cells-words : 30720 ≡ cellsLen
+pub cells-words : 5120 ≡ cellsLen
 unfolding cellsLen
 cells-words = refl
 

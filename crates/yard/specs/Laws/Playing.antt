@@ -17,7 +17,6 @@ use Rattle.model.specs.Update.{mostEntities, mostCells, tooManyEntities, tooMan
 use Rattle.model.specs.Laws.Members.{keep-shorter, run-append}
 use Rattle.model.specs.Laws.Sorted.{Asc}
 use Rattle.model.specs.Laws.Tables.{keys-length}
-use Rattle.model.specs.Laws.Touching.{touching-26}
 use Rattle.model.specs.Laws.Occupied.{Sound, pass-sound, events-keep}
 use Rattle.model.specs.Laws.Net.{Net, pass-net}
 use Rattle.batch.specs.Words.{moveAt, movesIn, batchOf}
@@ -31,7 +30,7 @@ use Rattle.yard.specs.Playing.{judged, Roomy, Ready, Going, Outcome, inR
 play-net : (was : List Cell) → Asc below was → (o : Occupancy) → Sound touch26 o → Net was o → (ev : Event) → Net was (play touch26 o ev)
 play-net was asc o ok net ev =
     events-keep touch26 (λ p. Sound touch26 p × Net was p) (λ p. Unit {0})
-    (λ p q x h u. (pass-sound touch26 (touching-26 .flip) (touching-26 .apart) p q (x .0) h, pass-net touch26 was asc p q (x .0) (x .1) h))
+    (λ p q x h u. (pass-sound touch26 p q (x .0) h, pass-net touch26 was asc p q (x .0) (x .1) h))
     o (ev ∷ []) (λ p m. tt) (ok, net) .1
 
 module _ {ents cells crowd occ emp : List ℕ} {n : Counts} {was : List Cell} {o : Occupancy} (r : Ready ents cells crowd occ emp n was o) where
@@ -52,7 +51,7 @@ module _ {ents cells crowd occ emp : List ℕ} {n : Counts} {was : List Cell} {o
   -- There is room for an entity more, and for its cell.
   pub ready-enter : RoomToEnter ents cells crowd occ n
   ready-enter =
-      let c : n .cells ≤ mostCells = omega (arith, r .held .stored .cells-count, keys-length (o .lists), r .within .cells) in
+      let c : n .cells ≤ mostCells = omega (arith, r .held .stored .cells-count, keys-length (o .masks), r .within .cells) in
       record {
         entities-room = omega (arith, r .room .ents-room, r .held .entities-count, r .within .entities);
         crowd-room = omega (arith, r .room .crowd-room, c);
@@ -101,7 +100,7 @@ module _ {ents cells crowd occ emp : List ℕ} {n : Counts} {was : List Cell} {o
   judged-is : judged n′ ≡ cond (tooManyEntities after) 6 (cond (tooManyCells after) 7 0)
   unfolding judged
   judged-is =
-      λ i. cond (ltb mostEntities (h .entities-count i)) 6 (cond (ltb mostCells ((h .stored .cells-count ∙ sym (keys-length (after .lists))) i)) 7 0)
+      λ i. cond (ltb mostEntities (h .entities-count i)) 6 (cond (ltb mostCells ((h .stored .cells-count ∙ sym (keys-length (after .masks))) i)) 7 0)
 
   -- An event that breaks a limit decides.
   pub going-stop : (k : ℕ) → k ≡ judged n′ → (k ≡ 0 → ⊥) → k ≡ brokenBy touch26 o es

@@ -53,9 +53,9 @@ module _ (w : List ℕ) (k : Known w) (from to : ℕ) (zeros : List ℕ) (z : Bl
       part-loaded entities-extend (decode w .occupancy .entities) entitiesLen (entities-long (decode w) (k .fits)) w from to entitiesFrom cellsFrom f t (k .stands .entity-words) zeros z h s e l
 
   -- The occupied cells, copied out.
-  pub cells-loaded : from ≡ cellsFrom → to ≡ occupiedFrom → cellsLen ≤ length zeros → s ≡ cellsImage (length s) (decode w .occupancy .lists)
+  pub cells-loaded : from ≡ cellsFrom → to ≡ occupiedFrom → cellsLen ≤ length zeros → s ≡ cellsImage (length s) (decode w .occupancy .masks)
   cells-loaded f t h =
-      part-loaded cells-extend (decode w .occupancy .lists) cellsLen (cells-long (decode w) (k .fits)) w from to cellsFrom occupiedFrom f t (k .stands .cell-words) zeros z h s e l
+      part-loaded cells-extend (decode w .occupancy .masks) cellsLen (cells-long (decode w) (k .fits)) w from to cellsFrom occupiedFrom f t (k .stands .cell-words) zeros z h s e l
 
   -- The cells with an id, copied out.
   pub ids-loaded : from ≡ idsFrom → to ≡ groupsFrom → idsLen ≤ length zeros → s ≡ idsImage (length s) (decode w .groups .ids)
@@ -79,12 +79,12 @@ module _ (w : List ℕ) (k : Known w) where
     crowd-room m h = omega (arith, h, ap length crowd-is, crowd-length, k .ok .few-cells)
 
     -- The map is copied out.
-    pub map-opened : (cels : List ℕ) → cels ≡ cellsImage (length cels) (o .lists) → (blank crowd : List ℕ) → length crowd ≡ length blank → crowd ≡ idsImage (length blank) (tally (entitiesIn n ents))
+    pub map-opened : (cels : List ℕ) → cels ≡ cellsImage (length cels) (o .masks) → (blank crowd : List ℕ) → length crowd ≡ length blank → crowd ≡ idsImage (length blank) (tally (entitiesIn n ents))
         → (r : Counts) → r .entities ≡ n → r .cells ≡ cellCount w → r .occupied ≡ 0 → r .emptied ≡ 0 → Opened w ents cels crowd r
     map-opened cels d blank crowd l g r x y z u =
         record {
           entities-are = e;
-          lists-are = d;
+          masks-are = d;
           crowd-is = g ∙ (λ i. idsImage (sym l i) (crowd-is i));
           entities-count = x ∙ c;
           cells-count = y ∙ k .stands .cell-count;
@@ -96,7 +96,7 @@ module _ (w : List ℕ) (k : Known w) where
   pub opened-ready : (ents cels crowd occ emp : List ℕ) (n : Counts) → Opened w ents cels crowd n → Blank occ → Blank emp → Roomy ents cels crowd occ emp → Ready ents cels crowd occ emp n (occupied o) (startBatch o)
   unfolding crowdOf
   opened-ready ents cels crowd occ emp n x z y r =
-      let few : length (o .lists) ≤ mostCells = omega (arith, k .ok .few-cells, keys-length (o .lists)) in
+      let few : length (o .masks) ≤ mostCells = omega (arith, k .ok .few-cells, keys-length (o .masks)) in
       record {
         held = record {
           entities-is = x .entities-are;
@@ -105,7 +105,7 @@ module _ (w : List ℕ) (k : Known w) where
           crowd-is = x .crowd-is;
           crowd-fit = omega (arith, x .cells-count, few, r .crowd-room);
           stored = record {
-            lists = x .lists-are;
+            masks = x .masks-are;
             opened = z ∙ sym (net-laws .none (length occ));
             emptied = y ∙ sym (net-laws .none (length emp));
             cells-count = x .cells-count;
@@ -227,7 +227,7 @@ regroup-ready w ids groups occ p emp m o e x from to f t words q l n next c d =
 
 -- The map of a state and empty net lists, each table with a row to spare.
 pub work-ready : (w : List ℕ) (k : Known w) (ents cels crowd occ emp : List ℕ) (n : Counts) → Opened w ents cels crowd n
-    → length ents ≡ 20485 → length cels ≡ 30750 → length crowd ≡ 5125 → Blank occ → length occ ≡ 4100 → Blank emp → length emp ≡ 4100
+    → length ents ≡ 20485 → length cels ≡ 5125 → length crowd ≡ 5125 → Blank occ → length occ ≡ 4100 → Blank emp → length emp ≡ 4100
     → Ready ents cels crowd occ emp n (occupied (decode w .occupancy)) (startBatch (decode w .occupancy))
 work-ready w k ents cels crowd occ emp n x a b c z d y e =
     opened-ready w k ents cels crowd occ emp n x z y

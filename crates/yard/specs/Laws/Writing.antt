@@ -87,9 +87,9 @@ module _ {w ents cells occ emp : List ℕ} {n : Counts} {b : Batch} (f : Finishe
     unfolding accepted
     ents-part = front entities-extend (p .entities) entitiesLen (entities-long a fits) ents (f .ready .held .entities-is) he
 
-    cells-part : take cellsLen cells ≡ cellsImage cellsLen (a .occupancy .lists)
+    cells-part : take cellsLen cells ≡ cellsImage cellsLen (a .occupancy .masks)
     unfolding accepted
-    cells-part = front cells-extend (p .lists) cellsLen (cells-long a fits) cells (f .ready .held .stored .lists) hc
+    cells-part = front cells-extend (p .masks) cellsLen (cells-long a fits) cells (f .ready .held .stored .masks) hc
 
     opened-part : take netLen occ ≡ netImage netLen (a .occupancy .newlyOccupied)
     unfolding accepted
@@ -122,4 +122,4 @@ module _ {w ents cells occ emp : List ℕ} {n : Counts} {b : Batch} (f : Finishe
         s .is
         ∙ ap (λ (l : List ℕ). l ++ drop stateLen w)
         ((λ i. (((((((e ∙ head-part) i) ++ ents-part i) ++ cells-part i) ++ opened-part i) ++ emptied-part i) ++ ids-part i) ++ groups-part i)
-        ∙ in-turn (header a) (entitiesImage entitiesLen (a .occupancy .entities)) (cellsImage cellsLen (a .occupancy .lists)) (netImage netLen (a .occupancy .newlyOccupied)) (netImage netLen (a .occupancy .newlyEmptied)) (idsImage idsLen (a .groups .ids)) (groupsImage groupsLen (a .records)))
+        ∙ in-turn (header a) (entitiesImage entitiesLen (a .occupancy .entities)) (cellsImage cellsLen (a .occupancy .masks)) (netImage netLen (a .occupancy .newlyOccupied)) (netImage netLen (a .occupancy .newlyEmptied)) (idsImage idsLen (a .groups .ids)) (groupsImage groupsLen (a .records)))

@@ -35,5 +35,5 @@ alike-words grid (refused′ {w} {v} d removals moves r f) =
     same-ends grid (decode w) (decode w) (decode v) (decode (updateOf v d removals moves .1)) refl (ap decode (sym (refusal-leaves v d removals moves f))) (alike-words grid r)
 
 -- What the two states show of the grid is equal, the ids by a renaming that keeps their order.
-pub isolation-words : (grid : ℕ) {w v : List ℕ} → AlikeWords grid w v → SameOn grid (decode w) (decode v)
+pub isolation-words : (grid : ℕ) {w v : List ℕ} → AlikeWords grid w v → SameOn touch26 grid (decode w) (decode v)
 isolation-words grid r = isolation-26 grid (alike-words grid r)

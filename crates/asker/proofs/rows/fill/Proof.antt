@@ -5,10 +5,10 @@ use Rattle.asker.proofs.rows.fill.Statement.{statement}
 use Rattle.asker.proofs.rows.fill.Tie as tie
 
 abbrev Inv-loop : tie.InvT-loop
-Inv-loop state₀ v i₀ state i = i ≤ 73744
+Inv-loop state₀ v i₀ state i = i ≤ 48144
 
 abbrev μ-loop : tie.MeasureT-loop
-μ-loop state₀ v i₀ state i = 73744 - i
+μ-loop state₀ v i₀ state i = 48144 - i
 
 loop-holds : tie.Need-loop-holds Inv-loop μ-loop
 loop-holds c = search needs

@@ -5,10 +5,10 @@ use Rattle.asker.proofs.yards.block.Statement.{statement}
 use Rattle.asker.proofs.yards.block.Tie as tie
 
 abbrev Inv-loop : tie.InvT-loop
-Inv-loop state₀ upward k₀ state k = k ≤ 27
+Inv-loop state₀ k₀ state k = k ≤ 27
 
 abbrev μ-loop : tie.MeasureT-loop
-μ-loop state₀ upward k₀ state k = 27 - k
+μ-loop state₀ k₀ state k = 27 - k
 
 word-requires : tie.Need-word-requires Inv-loop μ-loop
 word-requires c κs = search needs
@@ -31,11 +31,11 @@ block-cell-requires-3 c κs = search needs
 entity-requires : tie.Need-entity-requires Inv-loop μ-loop
 entity-requires c κs = search needs
 
+block-mask-requires : tie.Need-block-mask-requires Inv-loop μ-loop
+block-mask-requires c κs = search needs
+
 occupied-requires : tie.Need-occupied-requires Inv-loop μ-loop
 occupied-requires c κs = search needs
-
-block-list-requires : tie.Need-block-list-requires Inv-loop μ-loop
-block-list-requires c κs = search needs
 
 add-k : tie.Need-add-k Inv-loop μ-loop
 add-k c = search needs
@@ -62,8 +62,8 @@ block-spec =
     loop-holds
     block-cell-requires-3
     entity-requires
+    block-mask-requires
     occupied-requires
-    block-list-requires
     add-k
     loop-less
     loop-again

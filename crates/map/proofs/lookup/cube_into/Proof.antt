@@ -15,7 +15,7 @@ use Rattle.map.proofs.lookup.cube_into.Statement.{statement}
 use Rattle.map.proofs.lookup.cube_into.Tie as tie
 
 abbrev Inv-loop : tie.InvT-loop
-Inv-loop cells n c r words₀ from k₀ i₀ words k i = (i ≤ n) × (k ≤ from + i) × (length words ≡ length words₀) × (take (4 * k) words ≡ take (4 * from) words₀ ++ gather answerWords (keep (beside r c) (take i (keys (table4 30 n cells)))))
+Inv-loop cells n c r words₀ from k₀ i₀ words k i = (i ≤ n) × (k ≤ from + i) × (length words ≡ length words₀) × (take (4 * k) words ≡ take (4 * from) words₀ ++ gather answerWords (keep (beside r c) (take i (keys (table4 5 n cells)))))
 
 abbrev μ-loop : tie.MeasureT-loop
 μ-loop cells n c r words₀ from k₀ i₀ words k i = n - i

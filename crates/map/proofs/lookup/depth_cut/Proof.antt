@@ -30,7 +30,7 @@ abbrev start : tie.At-loop Inv-loop μ-loop → tie.Start Inv-loop μ-loop
 start l = l .before .before .before .before .before
 
 -- The row of the loop stands within the words.
-inside : (c : tie.In-loop Inv-loop μ-loop) → let l = c .before in (l .loop .k < length (start l .args .queue .now)) × (30 * getD (start l .args .queue .now) (l .loop .k) 0 + 30 ≤ length (start l .args .cells .now))
+inside : (c : tie.In-loop Inv-loop μ-loop) → let l = c .before in (l .loop .k < length (start l .args .queue .now)) × (5 * getD (start l .args .queue .now) (l .loop .k) 0 + 5 ≤ length (start l .args .cells .now))
 inside c =
     let l = c .before in
     let s = start l in
@@ -39,7 +39,7 @@ inside c =
     (omega (arith, s .pre .0 .few), omega (arith, s .pre .0 .fits))
 
 -- The row of the seed does too.
-seeded : (s : tie.Start Inv-loop μ-loop) → 30 * s .args .seed + 30 ≤ length (s .args .cells .now)
+seeded : (s : tie.Start Inv-loop μ-loop) → 5 * s .args .seed + 5 ≤ length (s .args .cells .now)
 seeded s = omega (arith, s .pre .0 .fits, s .pre .1)
 
 abbrev all : tie.At-loop Inv-loop μ-loop → List Cell

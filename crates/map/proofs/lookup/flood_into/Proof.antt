@@ -31,7 +31,7 @@ kept : (l : tie.At-loop Inv-loop μ-loop) → length (l .loop .answer) ≡ lengt
 kept l = filling-kept (start l .args .answer .now) (all l) (l .loop .k) (l .loop .answer) (l .loop .inv .1) (omega (arith, long l, l .loop .inv .0)) (omega (arith, long l, start l .pre .1))
 
 -- The row of the loop stands within the words.
-inside : (c : tie.In-loop Inv-loop μ-loop) → let l = c .before in (l .loop .k < length (start l .args .rows .now)) × (30 * getD (start l .args .rows .now) (l .loop .k) 0 + 30 ≤ length (start l .args .cells .now))
+inside : (c : tie.In-loop Inv-loop μ-loop) → let l = c .before in (l .loop .k < length (start l .args .rows .now)) × (5 * getD (start l .args .rows .now) (l .loop .k) 0 + 5 ≤ length (start l .args .cells .now))
 inside c =
     let l = c .before in
     let s = start l in

@@ -9,7 +9,7 @@ use Rattle.layout.specs.Rows.{cellsIn}
 use Rattle.map.specs.Fronts.{Front, front}
 use Rattle.map.specs.Standing.{Floodable}
 use Rattle.map.specs.Laws.Reads.{cells-table, cells-read}
-use Rattle.map.proofs.Wave.{Wave, canon, begun, wave-begun, wave-few, wave-fits, wave-row, wave-space, wave-there, wave-step, wave-end, wave-over}
+use Rattle.map.proofs.Wave.{Wave, canon, begun, wave-begun, wave-few, wave-fits, wave-row, wave-space, wave-there, wave-exact, wave-step, wave-end, wave-over}
 use Rattle.map.proofs.lookup.flood_rows.Statement.{statement}
 use Rattle.map.proofs.lookup.flood_rows.Tie as tie
 
@@ -72,6 +72,7 @@ follow-requires c κs =
       table = cells-table (s .args .cells .now) (s .args .n) (onset s .table) (onset s .cells);
       row = wave-row (s .args .cells .now) (s .args .n) (s .args .seed) (s .args .label) (seeded s) (queue₁ s) (onset s) (l .loop .h) (here l) (l .loop .inv) b _ refl;
       fits = wave-fits (s .args .cells .now) (s .args .n) (s .args .seed) (s .args .label) (seeded s) (queue₁ s) (onset s) (l .loop .h) (here l) (l .loop .inv);
+      exact = wave-exact (s .args .cells .now) (s .args .n) (s .args .seed) (s .args .label) (seeded s) (queue₁ s) (onset s) (l .loop .h) (here l) (l .loop .inv) b _ refl;
       there = wave-there (s .args .cells .now) (s .args .n) (s .args .seed) (s .args .label) (seeded s) (queue₁ s) (onset s) (l .loop .h) (here l) (l .loop .inv) b _ refl;
       space = wave-space (s .args .cells .now) (s .args .n) (s .args .seed) (s .args .label) (seeded s) (queue₁ s) (onset s) (l .loop .h) (here l) (l .loop .inv) b _ refl;
     }

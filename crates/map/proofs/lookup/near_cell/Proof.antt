@@ -1,19 +1,13 @@
--- The cell of a row, or of a word of its list.
-use Prim.Native.Nat.{_+_, _*_, _≤_}
+-- The cell is that of a row, so its words are words of 64 bits.
 use native.Mathlib.Omega.{arith}
-use mathlib.Core.Path.{sym, ap, _∙_}
-use mathlib.Core.List.{_∷_}
-use lib.ListN.{getD}
+use mathlib.Core.Path.{sym, ap, _∙_, subst}
 use borrow.Author.Needs.{needs}
-use Rattle.model.specs.Cells.{Cell}
-use Rattle.layout.specs.Rows.{neighbourOf}
-use Rattle.map.specs.Rows.{rowCell, rowList}
-use Rattle.map.specs.Laws.Listing.{numbers-few, near-at}
+use Rattle.model.specs.Cells.{Cell, shift}
+use Rattle.model.specs.Places.{offsetAt}
+use Rattle.map.specs.Rows.{Lands, rowCell, rowNear}
+use Rattle.map.specs.Laws.Landing.{lands}
 use Rattle.map.proofs.lookup.near_cell.Statement.{statement}
 use Rattle.map.proofs.lookup.near_cell.Tie as tie
-
-short : (s : tie.Start) → s .args .k ≤ 26
-short s = omega (arith, s .pre .1, numbers-few (s .args .cells .now) (s .args .row) (s .pre .0))
 
 mul-cell-at : tie.Need-mul-cell-at
 mul-cell-at c = search needs
@@ -21,50 +15,18 @@ mul-cell-at c = search needs
 cell-at-requires : tie.Need-cell-at-requires
 cell-at-requires c κs = search needs
 
+near-of-requires : tie.Need-near-of-requires
+unfolding rowCell
+near-of-requires c κs =
+    let s = c .before .before in (
+      s .pre .2,
+      subst (λ (a : Cell). Lands a (offsetAt (s .args .k))) (sym (c .cell-at .ensures))
+          (lands (s .args .cells .now) (s .args .n) (λ j. omega (arith, c .before .shared-slice-known .given j)) (rowCell (s .args .cells .now) (s .args .i)) (offsetAt (s .args .k)) (s .pre .3)),
+    )
+
 returns : tie.Need-returns
-unfolding rowCell
-returns c =
-    let s = c .before .before .before in
-    c .before .cell-at .ensures ∙ sym (ap (λ j. getD (rowCell (s .args .cells .now) (s .args .row) ∷ rowList (s .args .cells .now) (s .args .row)) j (rowCell (s .args .cells .now) (s .args .row))) (c .if1 .taken))
-
-mul-neighbour-of : tie.Need-mul-neighbour-of
-mul-neighbour-of c = search needs
-
-add-neighbour-of : tie.Need-add-neighbour-of
-add-neighbour-of c = search needs
-
-add-neighbour-of-2 : tie.Need-add-neighbour-of-2
-add-neighbour-of-2 c = let h = short (c .before .before .before) in search needs
-
-mul-neighbour-of-2 : tie.Need-mul-neighbour-of-2
-mul-neighbour-of-2 c = let h = short (c .before .before .before) in search needs
-
-shared-slice-read-neighbour-of : tie.Need-shared-slice-read-neighbour-of
-shared-slice-read-neighbour-of c = let h = short (c .before .before .before .before) in search needs
-
-neighbour-of-requires : tie.Need-neighbour-of-requires
-neighbour-of-requires c κs = search needs
-
-returns-2 : tie.Need-returns-2
-unfolding rowCell
-returns-2 c =
-    let s = c .before .before .before .before .before in
-    let w = s .args .cells .now in
-    c .neighbour-of .ensures
-    ∙ ap (λ (a : Cell). neighbourOf a (getD w (30 * s .args .row + 3 + s .args .k) 0)) (c .before .before .before .cell-at .ensures)
-    ∙ sym (near-at w (s .args .row) (s .pre .0) (s .args .k) (rowCell w (s .args .row)) (c .before .before .if1 .left) (s .pre .1))
+unfolding rowCell rowNear
+returns c = c .near-of .ensures ∙ ap (λ (a : Cell). shift a (offsetAt (c .before .before .before .args .k))) (c .before .cell-at .ensures)
 
 pub near-cell-spec : {M : Type 1} → statement M
-near-cell-spec =
-    tie.close
-    (tie.spec
-    mul-cell-at
-    cell-at-requires
-    returns
-    mul-neighbour-of
-    add-neighbour-of
-    add-neighbour-of-2
-    mul-neighbour-of-2
-    shared-slice-read-neighbour-of
-    neighbour-of-requires
-    returns-2)
+near-cell-spec = tie.close (tie.spec mul-cell-at cell-at-requires near-of-requires returns)

@@ -1,72 +1,128 @@
--- The loop writes the next cell behind those that are written.
-use Prim.Native.Nat.{_+_, _-_, _*_, _≤_}
+-- The loop writes the cell of the next set bit behind those that are written.
+use Prim.Native.Nat.{ℕ, suc, _+_, _-_, _*_, _≤_}
 use native.Mathlib.Omega.{arith}
-use mathlib.Core.Path.{_≡_, ap, _∙_}
-use mathlib.Core.List.{List, _∷_}
-use lib.ListN.{length, take}
+use mathlib.Core.Path.{_≡_, sym, ap, _∙_}
+use mathlib.Core.Bool.{true}
+use mathlib.Core.List.{List, [], _∷_, _++_}
+use lib.ListN.{length, length-append}
 use borrow.Author.Needs.{needs}
-use Rattle.model.specs.Cells.{Cell}
-use Rattle.map.specs.Rows.{rowCell, rowList}
-use Rattle.map.specs.Laws.Listing.{list-length, numbers-few}
-use Rattle.map.specs.Laws.Reads.{row-list}
+use Rattle.model.specs.Lists.{keys}
+use Rattle.model.specs.Cells.{Cell, touch26}
+use Rattle.model.specs.Masks.{bit, touching}
+use Rattle.map.specs.Rows.{rowCell, rowMask, rowNear, rowList}
+use Rattle.map.specs.Laws.Listing.{nearUpTo, near-none, near-first, near-all, near-few, near-yes, near-no}
+use Rattle.map.specs.Laws.Reads.{row-list, row-bit}
 use Rattle.map.specs.Answers.{filled}
-use Rattle.map.specs.Laws.Filling.{filled-none, filling-kept, filling-step, filling-end}
+use Rattle.map.specs.Laws.Filling.{filled-length, Written, written-first, written-end, written-same, written-back}
 use Rattle.map.proofs.lookup.nearby_into.Statement.{statement}
 use Rattle.map.proofs.lookup.nearby_into.Tie as tie
 
 abbrev Inv-loop : tie.InvT-loop
-Inv-loop cells n row answer₀ m k₀ answer k = (k ≤ m) × (answer ≡ filled answer₀ (take k (rowCell cells row ∷ rowList cells row)))
+Inv-loop cells n row answer₀ m e₀ k₀ answer e k = (k ≤ 26) × (e ≡ length (nearUpTo cells row k)) × Written answer₀ (nearUpTo cells row k) answer
 
 abbrev μ-loop : tie.MeasureT-loop
-μ-loop cells n row answer₀ m k₀ answer k = m - k
+μ-loop cells n row answer₀ m e₀ k₀ answer e k = 26 - k
 
 -- The row stands within the words.
-inside : (s : tie.Start Inv-loop μ-loop) → 30 * s .args .row + 30 ≤ length (s .args .cells .now)
+inside : (s : tie.Start Inv-loop μ-loop) → 5 * s .args .row + 5 ≤ length (s .args .cells .now)
 inside s = omega (arith, s .pre .cells .fits, s .pre .there)
 
-abbrev nearby : tie.Start Inv-loop μ-loop → List Cell
-nearby s = rowCell (s .args .cells .now) (s .args .row) ∷ rowList (s .args .cells .now) (s .args .row)
-
 -- The answer has space.
-space : (s : tie.Start Inv-loop μ-loop) → 4 * length (nearby s) ≤ length (s .args .answer .now)
+space : (s : tie.Start Inv-loop μ-loop) → 4 * suc (length (rowList (s .args .cells .now) (s .args .row))) ≤ length (s .args .answer .now)
 space s = omega (arith, s .pre .space, ap length (row-list (s .args .cells .now) (s .args .n) (s .pre .table) (s .pre .cells) (s .args .row) (s .pre .there)))
 
--- There are as many cells as the loop has turns.
-long : (a : tie.After-list-len Inv-loop μ-loop) → length (nearby (a .before .before .before)) ≡ a .list-len .result + 1
-long a =
-    let s = a .before .before .before in
-    omega (arith, a .list-len .ensures, list-length (s .args .cells .now) (s .args .row))
-
 abbrev start : tie.At-loop Inv-loop μ-loop → tie.Start Inv-loop μ-loop
-start l = l .before .before .before .before
+start l = l .before .before .before .before .before .before .before .before .before
+
+abbrev done : tie.At-loop Inv-loop μ-loop → ℕ → List Cell
+done l k = nearUpTo (start l .args .cells .now) (start l .args .row) k
+
+-- What is written.
+shown : (l : tie.At-loop Inv-loop μ-loop) → l .loop .answer ≡ filled (start l .args .answer .now) (done l (l .loop .k))
+shown l =
+    let s = start l in
+    let f = near-first (s .args .cells .now) (s .args .row) (l .loop .k) in
+    written-back (l .loop .inv .2) (s .args .answer .now) (l .before .before .before .before .cell-at .result) (rowCell (s .args .cells .now) (s .args .row)) (f .0) (l .before .before .before .write-cell .ensures) (f .1)
 
 kept : (l : tie.At-loop Inv-loop μ-loop) → length (l .loop .answer) ≡ length (start l .args .answer .now)
-kept l = filling-kept (start l .args .answer .now) (nearby (start l)) (l .loop .k) (l .loop .answer) (l .loop .inv .1) (omega (arith, long (l .before), l .loop .inv .0)) (space (start l))
+kept l =
+    ap length (shown l)
+    ∙ filled-length (start l .args .answer .now) (done l (l .loop .k)) (omega (arith, space (start l), near-few (start l .args .cells .now) (start l .args .row) (l .loop .k)))
 
--- A list has at most 26 cells.
-few : (a : tie.After-list-len Inv-loop μ-loop) → a .list-len .result ≤ 26
-few a = let s = a .before .before .before in omega (arith, a .list-len .ensures, numbers-few (s .args .cells .now) (s .args .row) (inside s))
+-- The bit is set.
+is-set : (t : tie.Then1 Inv-loop μ-loop) → let l = t .before .before .before in bit (rowMask (start l .args .cells .now) (start l .args .row)) (l .loop .k) ≡ true
+unfolding rowMask
+is-set t = sym (t .before .has .ensures) ∙ t .if1 .taken
 
-list-len-requires : tie.Need-list-len-requires Inv-loop μ-loop
-list-len-requires c κs = inside (c .before .before)
+-- One cell more.
+more : (t : tie.Then1 Inv-loop μ-loop) → let l = t .before .before .before in done l (l .loop .k + 1) ≡ done l (l .loop .k) ++ (rowNear (start l .args .cells .now) (start l .args .row) (l .loop .k) ∷ [])
+more t = let l = t .before .before .before in near-yes (start l .args .cells .now) (start l .args .row) (l .loop .k) (t .before .before .loop-test .taken) (is-set t)
+
+longer : (t : tie.Then1 Inv-loop μ-loop) → let l = t .before .before .before in l .loop .e + 1 ≡ length (done l (l .loop .k + 1))
+longer t =
+    let l = t .before .before .before in
+    omega (arith, l .loop .inv .1, ap length (more t), length-append (done l (l .loop .k)) (rowNear (start l .args .cells .now) (start l .args .row) (l .loop .k) ∷ []))
+
+-- There is space for it.
+fits : (t : tie.Then1 Inv-loop μ-loop) → let l = t .before .before .before in (4 * l .loop .e + 4 ≤ length (l .loop .answer)) × (4 * l .loop .e + 4 ≤ length (start l .args .answer .now))
+fits t =
+    let l = t .before .before .before in
+    let h : 4 * l .loop .e + 4 ≤ length (start l .args .answer .now) = omega (arith, longer t, near-few (start l .args .cells .now) (start l .args .row) (l .loop .k + 1), space (start l)) in
+    (omega (arith, kept l), h)
+
+mul-m : tie.Need-mul-m Inv-loop μ-loop
+mul-m c = let h = inside (c .before .before) in search needs
 
 add-m : tie.Need-add-m Inv-loop μ-loop
-add-m c = let f = few c in search needs
+add-m c = let h = inside (c .before .before) in search needs
 
-loop-holds : tie.Need-loop-holds Inv-loop μ-loop
-loop-holds c = let s = c .before .before .before in (omega arith, filled-none (s .args .answer .now) (nearby s))
+mul-m-2 : tie.Need-mul-m-2 Inv-loop μ-loop
+mul-m-2 c = let h = inside (c .before .before) in search needs
 
-near-cell-requires : tie.Need-near-cell-requires Inv-loop μ-loop
-near-cell-requires c κs = let l = c .before in (inside (start l), omega (arith, c .loop-test .taken, l .before .list-len .ensures))
+shared-slice-read-m : tie.Need-shared-slice-read-m Inv-loop μ-loop
+shared-slice-read-m c = let h = inside (c .before .before .before) in search needs
 
-mul-write-cell : tie.Need-mul-write-cell Inv-loop μ-loop
-mul-write-cell c = let l = c .before .before .before in let h : 4 * l .loop .k + 4 ≤ length (start l .args .answer .now) = omega (arith, space (start l), long (l .before), c .before .before .loop-test .taken) in search needs
+mul-cell-at : tie.Need-mul-cell-at Inv-loop μ-loop
+mul-cell-at c = let h = inside (c .before .before .before .before) in search needs
+
+cell-at-requires : tie.Need-cell-at-requires Inv-loop μ-loop
+cell-at-requires c κs = let h = inside (c .before .before .before .before) in search needs
 
 write-cell-requires : tie.Need-write-cell-requires Inv-loop μ-loop
-write-cell-requires c κs = let l = c .before .before .before in let h : 4 * l .loop .k + 4 ≤ length (l .loop .answer) = omega (arith, kept l, space (start l), long (l .before), c .before .before .loop-test .taken) in search needs
+write-cell-requires c κs = omega (arith, space (c .before .before .before .before .before))
+
+loop-holds : tie.Need-loop-holds Inv-loop μ-loop
+unfolding rowCell
+loop-holds c =
+    let s = c .before .before .before .before .before .before .before .before in
+    let z = near-none (s .args .cells .now) (s .args .row) in
+    let e = c .before .before .before .cell-at .ensures in (
+      omega arith,
+      sym (ap length z),
+      written-first (s .args .answer .now) (c .before .before .before .cell-at .result) _ (c .before .before .write-cell .ensures) (z ∙ ap (λ (a : Cell). a ∷ []) (sym e)),
+    )
+
+has-requires : tie.Need-has-requires Inv-loop μ-loop
+has-requires c κs = omega (arith, c .loop-test .taken)
+
+near-cell-requires : tie.Need-near-cell-requires Inv-loop μ-loop
+near-cell-requires c κs =
+    let l = c .before .before .before in
+    let s = start l in
+    let h = c .before .before .loop-test .taken in
+    (s .pre .cells .fits, s .pre .there, h, sym (row-bit (s .args .cells .now) (s .args .n) (s .pre .table) (s .pre .cells) (s .args .row) (s .pre .there) (l .loop .k) h) ∙ is-set c)
+
+mul-write-cell : tie.Need-mul-write-cell Inv-loop μ-loop
+mul-write-cell c = let h = fits (c .before .before) .1 in search needs
+
+write-cell-requires-2 : tie.Need-write-cell-requires-2 Inv-loop μ-loop
+write-cell-requires-2 c κs = fits (c .before .before) .0
+
+add-e : tie.Need-add-e Inv-loop μ-loop
+add-e c = let h = fits (c .before .before .before .before .before) .1 in search needs
 
 add-k : tie.Need-add-k Inv-loop μ-loop
-add-k c = let f = few (c .before .before .before .before .before .before .before) in search needs
+add-k c = search needs
 
 loop-less : tie.Need-loop-less Inv-loop μ-loop
 loop-less c = search needs
@@ -74,12 +130,33 @@ loop-less c = search needs
 loop-again : tie.Need-loop-again Inv-loop μ-loop
 loop-again c =
     let a = c .before .before .before .before in
-    let n = a .before in
-    let l = n .before in
-    let s = start l in (
-      omega (arith, n .loop-test .taken),
-      filling-step (s .args .answer .now) (nearby s) (l .loop .k) (l .loop .answer) _ (a .near-cell .result) (rowCell (s .args .cells .now) (s .args .row)) (l .loop .inv .1) (c .before .before .write-cell .ensures)
-          (a .near-cell .ensures) (omega (arith, long (l .before), n .loop-test .taken)),
+    let t = a .before in
+    let l = t .before .before .before in
+    let s = start l in
+    let v = l .loop .inv in
+    let d = done l (l .loop .k) in (
+      omega (arith, t .before .before .loop-test .taken),
+      longer t,
+      written-end (v .2) _ (done l (l .loop .k + 1)) (l .loop .e) (a .near-cell .result) (v .1) (c .before .before .write-cell2 .ensures)
+          (more t ∙ ap (λ (x : Cell). d ++ (x ∷ [])) (sym (a .near-cell .ensures))),
+    )
+
+add-k-2 : tie.Need-add-k-2 Inv-loop μ-loop
+add-k-2 c = search needs
+
+loop-less-2 : tie.Need-loop-less-2 Inv-loop μ-loop
+loop-less-2 c = search needs
+
+loop-again-2 : tie.Need-loop-again-2 Inv-loop μ-loop
+unfolding rowMask
+loop-again-2 c =
+    let l = c .before .before .before in
+    let s = start l in
+    let v = l .loop .inv in
+    let e = near-no (s .args .cells .now) (s .args .row) (l .loop .k) (c .before .before .loop-test .taken) (sym (c .before .has .ensures) ∙ c .if1 .left) in (
+      omega (arith, c .before .before .loop-test .taken),
+      v .1 ∙ sym (ap length e),
+      written-same (v .2) (done l (l .loop .k + 1)) e,
     )
 
 same-length : tie.Need-same-length Inv-loop μ-loop
@@ -89,14 +166,12 @@ returns : tie.Need-returns Inv-loop μ-loop
 returns c =
     let l = c .before in
     let s = start l in
+    let v = l .loop .inv in
     λ t k.
-    let e = row-list (s .args .cells .now) (s .args .n) t k (s .args .row) (s .pre .there) in
-    record {
-      number = omega (arith, long (l .before), ap length e);
-      written =
-          filling-end (s .args .answer .now) (nearby s) (l .loop .k) (l .loop .answer) (l .loop .inv .1) (omega (arith, long (l .before), c .loop-test .left))
-          ∙ ap (λ (m : List Cell). filled (s .args .answer .now) (rowCell (s .args .cells .now) (s .args .row) ∷ m)) e;
-    }
+    let e : done l (l .loop .k) ≡ rowCell (s .args .cells .now) (s .args .row) ∷ touching touch26 (keys t) (rowCell (s .args .cells .now) (s .args .row)) =
+    near-all (s .args .cells .now) (s .args .row) (l .loop .k) (c .loop-test .left)
+    ∙ ap (λ (m : List Cell). rowCell (s .args .cells .now) (s .args .row) ∷ m) (row-list (s .args .cells .now) (s .args .n) t k (s .args .row) (s .pre .there)) in
+    record { number = v .1 ∙ ap length e; written = shown l ∙ ap (filled (s .args .answer .now)) e }
 
 pub nearby-into-spec : {M : Type 1} → statement M
 nearby-into-spec =
@@ -104,14 +179,24 @@ nearby-into-spec =
     (tie.spec
     Inv-loop
     μ-loop
-    list-len-requires
+    mul-m
     add-m
+    mul-m-2
+    shared-slice-read-m
+    mul-cell-at
+    cell-at-requires
+    write-cell-requires
     loop-holds
+    has-requires
     near-cell-requires
     mul-write-cell
-    write-cell-requires
+    write-cell-requires-2
+    add-e
     add-k
     loop-less
     loop-again
+    add-k-2
+    loop-less-2
+    loop-again-2
     same-length
     returns)

@@ -6,15 +6,15 @@ use Rattle.map.specs.Rows.{rowFor}
 use Rattle.map.proofs.lookup.row_of.Statement.{statement}
 use Rattle.map.proofs.lookup.row_of.Tie as tie
 
-find4-requires : tie.Need-find4-requires
-find4-requires c κs = search needs
+find4-near-requires : tie.Need-find4-near-requires
+find4-near-requires c κs = search needs
 
 index-requires : tie.Need-index-requires
 index-requires c κs = search needs
 
 returns : tie.Need-returns
 unfolding rowFor
-returns c = c .index .ensures ∙ ap placed (c .before .find4 .ensures)
+returns c = c .index .ensures ∙ ap placed (c .before .find4-near .ensures)
 
 pub row-of-spec : {M : Type 1} → statement M
-row-of-spec = tie.close (tie.spec find4-requires index-requires returns)
+row-of-spec = tie.close (tie.spec find4-near-requires index-requires returns)

@@ -5,10 +5,10 @@ use Rattle.played_moves.proofs.yards.difference.Statement.{statement}
 use Rattle.played_moves.proofs.yards.difference.Tie as tie
 
 abbrev Inv-loop : tie.InvT-loop
-Inv-loop words a b i₀ i = i ≤ 73740
+Inv-loop words a b i₀ i = i ≤ 48140
 
 abbrev μ-loop : tie.MeasureT-loop
-μ-loop words a b i₀ i = 73740 - i
+μ-loop words a b i₀ i = 48140 - i
 
 loop-holds : tie.Need-loop-holds Inv-loop μ-loop
 loop-holds c = search needs

@@ -8,7 +8,7 @@ use Rattle.player.proofs.playing.play_all.Statement.{statement}
 use Rattle.player.proofs.playing.play_all.Tie as tie
 
 abbrev Inv-loop : tie.InvT-loop
-Inv-loop state₀ input₀ output₀ p₀ turns₀ state input output p turns = (73736 ≤ length state) × (length state ≡ length state₀) × (length input ≡ length input₀) × (length output ≡ length output₀) × Plays (length input) (length output) p
+Inv-loop state₀ input₀ output₀ p₀ turns₀ state input output p turns = (48136 ≤ length state) × (length state ≡ length state₀) × (length input ≡ length input₀) × (length output ≡ length output₀) × Plays (length input) (length output) p
 
 abbrev μ-loop : tie.MeasureT-loop
 μ-loop state₀ input₀ output₀ p₀ turns₀ state input output p turns = turns
