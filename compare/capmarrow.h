@@ -4,7 +4,7 @@
  * A slice is a pointer and its number of 64-bit words; slices of one call must not overlap. Each function gives back the scope's
  * number: 0 done, 1 a slice is too short, 2 the state is not consistent, 3 more than 1,024 events, 4 a coordinate is out of range,
  * 5 fewer than 2,048 ids are left, 6 more than 4,096 entities, 7 more than 1,024 occupied cells, 8 the answer is longer than its
- * slice. After any number but 0 and 8 every slice is as found; after 8 only `told` is written.
+ * slice, 12 no path joins the cells. After any number but 0 and 8 every slice is as found; after 8 only `told` is written.
  *
  * `told` has the rest of an answer; the number is 1 if it is shorter than the call's CAPMARROW_TOLD. told[0] is 1 if the entity, cell or id
  * is found and else 0. Coordinates in words are in two's complement. */
@@ -74,6 +74,10 @@ uint64_t capmarrow_cube(const uint64_t *state, size_t state_len, uint64_t grid, 
 /* Gives the first cells of the flood from a seed, four words each, to a depth if `deep`, up to a budget of cells; refuses by 1, 2, 4 and
  * 8. */
 uint64_t capmarrow_flood(const uint64_t *state, size_t state_len, uint64_t grid, int32_t x, int32_t y, int32_t z, bool deep, int32_t depth, uint64_t budget, uint64_t *answer, size_t answer_len, uint64_t *told, size_t told_len);
+
+/* Gives the path from a cell to another, both included, four words a cell: touching occupied cells, the fewest, and among as few those that
+ * come first in cell order; refuses by 1, 2, 4, 12 and 8, in that order. */
+uint64_t capmarrow_path(const uint64_t *state, size_t state_len, uint64_t grid, int32_t x, int32_t y, int32_t z, uint64_t to_grid, int32_t to_x, int32_t to_y, int32_t to_z, uint64_t *answer, size_t answer_len, uint64_t *told, size_t told_len);
 
 #ifdef __cplusplus
 }

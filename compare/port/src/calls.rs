@@ -74,3 +74,12 @@ pub fn flood(state: &[u64], c: Cell, depth: Option<i32>, budget: u64, answer: &m
         ffi::capmarrow_flood(state.as_ptr(), state.len(), c.grid, c.x, c.y, c.z, deep, most, budget, answer.as_mut_ptr(), answer.len(), told.as_mut_ptr(), told.len())
     }
 }
+
+/// Told: found, count.
+pub fn path(state: &[u64], from: Cell, to: Cell, answer: &mut [u64], told: &mut [u64]) -> u64 {
+    unsafe {
+        ffi::capmarrow_path(
+            state.as_ptr(), state.len(), from.grid, from.x, from.y, from.z, to.grid, to.x, to.y, to.z, answer.as_mut_ptr(), answer.len(), told.as_mut_ptr(), told.len(),
+        )
+    }
+}

@@ -23,4 +23,8 @@ extern "C" {
         state: *const u64, state_len: usize, grid: u64, x: i32, y: i32, z: i32, deep: bool, depth: i32, budget: u64, answer: *mut u64, answer_len: usize, told: *mut u64,
         told_len: usize,
     ) -> u64;
+    pub fn capmarrow_path(
+        state: *const u64, state_len: usize, grid: u64, x: i32, y: i32, z: i32, to_grid: u64, to_x: i32, to_y: i32, to_z: i32, answer: *mut u64, answer_len: usize,
+        told: *mut u64, told_len: usize,
+    ) -> u64;
 }

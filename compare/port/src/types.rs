@@ -50,21 +50,22 @@ fn word(n: i32) -> u64 {
     i64::from(n) as u64
 }
 
-/// Why a call was refused: the scope's numbers 1 to 8. A refused call leaves the yard as it was.
+/// Why a call was refused: the scope's numbers. A refused call leaves the yard as it was.
 #[derive(Debug, Clone, Copy, PartialEq, Eq)]
 pub enum Refusal {
-    TooShort,
-    NotConsistent,
-    TooManyEvents,
-    OutOfRange,
-    FewIds,
-    TooManyEntities,
-    TooManyCells,
-    AnswerTooLong,
+    TooShort = 1,
+    NotConsistent = 2,
+    TooManyEvents = 3,
+    OutOfRange = 4,
+    FewIds = 5,
+    TooManyEntities = 6,
+    TooManyCells = 7,
+    AnswerTooLong = 8,
+    NoPath = 12,
 }
 
 impl Refusal {
-    const ALL: [Refusal; 8] = [
+    const ALL: [Refusal; 9] = [
         Refusal::TooShort,
         Refusal::NotConsistent,
         Refusal::TooManyEvents,
@@ -73,19 +74,21 @@ impl Refusal {
         Refusal::TooManyEntities,
         Refusal::TooManyCells,
         Refusal::AnswerTooLong,
+        Refusal::NoPath,
     ];
 
     /// The scope's number.
     pub fn number(self) -> u64 {
-        self as u64 + 1
+        self as u64
     }
 
     /// The refusal of a number, none for 0.
     pub(crate) fn of(number: u64) -> Answer<()> {
-        match number.checked_sub(1) {
-            None => Ok(()),
-            Some(at) => Err(Refusal::ALL[at as usize]),
+        if number == 0 {
+            return Ok(());
         }
+        let told = Refusal::ALL.into_iter().find(|refusal| refusal.number() == number);
+        Err(told.expect("a number of the scope"))
     }
 }
 

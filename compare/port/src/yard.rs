@@ -103,6 +103,11 @@ impl Yard {
         let cells = answer.chunks(4).take(told[1] as usize).map(Cell::of_words).collect();
         Ok(lookup(told[0], || Flood { cells, was_all: told[2] == 1 }))
     }
+
+    /// The path from one cell to another, both included: touching occupied cells, the fewest, and among as few the first in cell order.
+    pub fn path(&self, from: Cell, to: Cell) -> Answer<Vec<Cell>> {
+        Ok(cells(|answer, told| calls::path(&self.words, from, to, answer, told))?.1)
+    }
 }
 
 fn lookup<T>(found: u64, answer: impl FnOnce() -> T) -> Lookup<T> {

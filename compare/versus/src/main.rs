@@ -9,6 +9,7 @@ mod alone;
 mod compare;
 mod counts;
 mod offer;
+mod paths;
 mod plain;
 mod questions;
 mod record;

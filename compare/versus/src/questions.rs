@@ -2,6 +2,7 @@
 
 use crate::compare::{same, Sides, Verdict};
 use crate::counts::Counts;
+use crate::paths;
 use crate::rng::Rng;
 use capmarrow::{calls, Answer, Cell, Cube, Flood, Lookup, Refusal, Yard, FAR, STATE_LEN};
 use std::collections::BTreeSet;
@@ -63,6 +64,8 @@ pub fn ask(sides: &Sides, asking: Asking, rng: &mut Rng, counts: &mut Counts) ->
         about(sides, &yard, at, counts)?;
         flood(sides, &yard, at, rng, counts)?;
         cube(sides, &yard, near(at, 1, rng), &cells, rng, counts)?;
+        let to = cells.get(rng.below(cells.len().max(1) as u64) as usize).map_or(anywhere, |c| near(*c, i32::from(rng.once_in(5)), rng));
+        paths::ask(sides, &yard, at, to, counts)?;
     }
     refusals(sides, cells.first().copied().unwrap_or(anywhere), rng, counts)
 }

@@ -9,3 +9,4 @@ pub mod Occupied
 pub mod Cubes
 pub mod Floods
 pub mod Told
+pub mod Paths

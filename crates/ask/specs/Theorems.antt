@@ -1,4 +1,5 @@
 -- What each answer's number tells, and that each call allows one answer only.
+pub mod Paths
 use Prim.Native.Nat.{ℕ}
 use mathlib.Core.Path.{_≡_, refl}
 use mathlib.Core.Bool.{true, false, cond}

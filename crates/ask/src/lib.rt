@@ -13,7 +13,7 @@ use table::Place;
 ghost use mathlib.Core.Path.{_≡_};
 ghost use mathlib.Core.Bool.{true};
 ghost use mathlib.Core.List.{_∷_, []};
-ghost use Prim.Native.Nat.{_+_, _*_, _≤_, _<_, min};
+ghost use Prim.Native.Nat.{ℕ, _+_, _*_, _≤_, _<_, min};
 ghost use lib.Dec.{eqb};
 ghost use lib.ListN.{length, getD, take};
 ghost use Rattle.component.specs.Range.{cellInRange};
@@ -31,6 +31,9 @@ ghost use Rattle.map.specs.Standing.{Cells, Floodable};
 ghost use Rattle.map.specs.Answers.{answerWords, Queued, cellsOfRows};
 ghost use Rattle.ask.specs.Answers.{refusal, cellRefusal, whereFrom, whereOf, idFrom, idOf, countFrom, countOf, groupFrom, groupOf, cornersFrom, cornersOf, listed, listedNumbers, listedCells, there, flooded, depthOf, idsOf, entitiesOf, occupiedOf, emptiedOf, nearbyOf, cubeOf, floodOf};
 ghost use Rattle.ask.specs.Parts.{having, standingIn, anyOf};
+ghost use Rattle.model.specs.Shortest.{shownPath};
+ghost use Rattle.path.specs.Walks.{shownRows};
+ghost use Rattle.ask.specs.Paths.{cellsRefusal, pathFrom, pathOf};
 
 // Where an entity stands.
 pub enum Where {
@@ -554,7 +557,7 @@ fn least(left: usize, budget: u64) -> usize
     }
 }
 
-// The flood from a row that is there, with rows to mark and to queue.
+// The flood from a row that is there, with rows to mark and to queue, none of them marked.
 fn flood_over(
     cells: &[u64],
     n: usize,
@@ -565,10 +568,10 @@ fn flood_over(
     queue: &mut [u64],
     answer: &mut [u64],
 ) -> Flooding
-    requires { ⌜ Floodable (now cells) n seed 1 (now marks) (now queue) × Cells (now cells) n (cellsIn n (now cells)) × (n ≤ 1024) ⌝ }
+    requires { ⌜ Floodable (now cells) n seed 1 0 (now marks) (now queue) × Cells (now cells) n (cellsIn n (now cells)) × (n ≤ 1024) × ((j : ℕ) → j < n → getD (now marks) j 0 ≡ 0) ⌝ }
     ensures { λ r. ⌜ (r, now (answer .exit)) ≡ flooded true (floodBy touch26 (having (cellsIn n (now (cells .entry))) .occupancy) (rowCell (now (cells .entry)) seed) (depthOf depth) budget) (now (answer .entry)) ⌝ }
 {
-    let whole = map::flood_rows(cells, n, seed, 1, marks, queue);
+    let whole = map::flood_rows(cells, n, seed, 1, 0, marks, queue);
     let left = left_by(cells, n, queue, whole, seed, depth);
     let number = least(left, budget);
     if answer.len() < 4 * number {
@@ -638,4 +641,61 @@ pub fn flood(state: &[u64], seed: CellId, depth: Depth, budget: u64, answer: &mu
     let rows = cell_words(state);
     let n = count_at(state, 1);
     give_flood(rows, n, component::stored(seed), depth, budget, answer)
+}
+
+// 1 and 2 by the state, and 4 for either of two cells that is out of range.
+fn cells_refused(state: &[u64], from: CellId, to: CellId) -> u64
+    ensures { λ r. ⌜ r ≡ cellsRefusal (now (state .entry)) from to ⌝ }
+{
+    let no = cell_refused(state, from);
+    if no != 0 {
+        return no;
+    }
+    if component::in_range(to.coord) { 0 } else { 4 }
+}
+
+// The path between two rows that are there; 12 where none leads.
+fn path_between(cells: &[u64], n: usize, from: usize, to: usize, answer: &mut [u64]) -> Listing
+    requires { ⌜ Cells (now cells) n (cellsIn n (now cells)) × (from < n) × (to < n) × (n ≤ 1024) ⌝ }
+    ensures { λ r. ⌜ (r, now (answer .exit)) ≡ pathFrom (shownRows (now (cells .entry)) (cellsIn n (now (cells .entry))) from to) (now (answer .entry)) ⌝ }
+{
+    let mut words = [0u64; 4100];
+    let k = path::path_rows(cells, n, from, to, &mut words);
+    if k == 0 {
+        return Listing::Refused(12);
+    }
+    give(true, k, &words, 4 * k, answer)
+}
+
+// The path between two cells, by the rows of the occupied cells; 12 also where an end is unoccupied.
+fn give_path(cells: &[u64], n: usize, a: Cell, b: Cell, answer: &mut [u64]) -> Listing
+    requires { ⌜ Cells (now cells) n (cellsIn n (now cells)) × (n ≤ 1024) ⌝ }
+    ensures { λ r. ⌜ (r, now (answer .exit)) ≡ pathFrom (shownPath touch26 (keys (cellsIn n (now (cells .entry)))) a b) (now (answer .entry)) ⌝ }
+{
+    let p = table::find4(cells, 5, n, a);
+    let q = table::find4(cells, 5, n, b);
+    if !table::is_found(p) | !table::is_found(q) {
+        return Listing::Refused(12);
+    }
+    path_between(cells, n, table::index(p), table::index(q), answer)
+}
+
+// The path from one cell to another, both included: the fewest cells, and among as few the first in cell order. Where there is none that is
+// told by 12, before 8.
+pub fn path(state: &[u64], from: CellId, to: CellId, answer: &mut [u64]) -> Listing
+    ensures { λ r. ⌜ (r, now (answer .exit)) ≡ pathOf (now (state .entry)) from to (now (answer .entry)) ⌝ }
+{
+    let no = cells_refused(state, from, to);
+    if no != 0 {
+        return Listing::Refused(no);
+    }
+    let rows = cell_words(state);
+    let n = count_at(state, 1);
+    give_path(
+        rows,
+        n,
+        component::stored(from),
+        component::stored(to),
+        answer,
+    )
 }

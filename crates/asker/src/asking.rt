@@ -38,6 +38,16 @@ fn cell(given: &[u64; 32]) -> CellId {
     })
 }
 
+// The cell that is given second.
+fn cell_to(given: &[u64; 32]) -> CellId {
+    component::cell_id(Cell {
+        grid: given[4],
+        z: stored(given[7]),
+        y: stored(given[6]),
+        x: stored(given[5]),
+    })
+}
+
 // A number in two's complement as a depth.
 fn depth(n: u64) -> Depth {
     let c = component::coord_of(Cell {
@@ -65,6 +75,9 @@ fn list(state: &[u64], key: u64, given: &[u64; 32], answer: &mut [u64]) -> Listi
     }
     if key == keys::NEARBY {
         return ask::nearby(state, cell(given), answer);
+    }
+    if key == keys::PATH {
+        return ask::path(state, cell(given), cell_to(given), answer);
     }
     ask::cube(state, cell(given), (given[4] % 256) as u8, answer)
 }
@@ -110,7 +123,8 @@ fn put_asked_flood(out: &mut [u8; 4096], state: &[u64], given: &[u64; 32], a: As
 // Whether a word asks for a list.
 fn asks_list(key: u64) -> bool {
     let of_all = (key == keys::IDS) | ((key == keys::OCCUPIED) | (key == keys::EMPTIED));
-    of_all | ((key == keys::ENTITIES) | ((key == keys::NEARBY) | (key == keys::CUBE)))
+    let of_cell = (key == keys::ENTITIES) | ((key == keys::NEARBY) | (key == keys::CUBE));
+    of_all | (of_cell | (key == keys::PATH))
 }
 
 // A question is asked of a state's words; the answer is how many bytes its text has.

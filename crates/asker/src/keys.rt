@@ -62,3 +62,5 @@ pub const NEARBY: u64 = 0x6e6561726279;
 pub const CUBE: u64 = 0x63756265;
 
 pub const FLOOD: u64 = 0x666c6f6f64;
+
+pub const PATH: u64 = 0x70617468;

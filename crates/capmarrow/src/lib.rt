@@ -17,6 +17,7 @@ ghost use Rattle.fresh.specs.Answer.{freshOf};
 ghost use Rattle.yard.specs.Update.{updateOf};
 ghost use Rattle.ask.specs.Answers.{whereOf, idOf, countOf, groupOf, cornersOf, idsOf, occupiedOf, emptiedOf, entitiesOf, nearbyOf, cubeOf, floodOf};
 ghost use Rattle.capmarrow.specs.Told.{axisWord, bit, cellOf, depthGiven, fronted, whereTold, idTold, countTold, groupTold, listingTold, floodingTold, telling, tells, tellsFilled};
+ghost use Rattle.ask.specs.Paths.{pathOf};
 
 // A coordinate as an answer has it: a word of two's complement.
 fn word(n: i32) -> u64
@@ -419,4 +420,30 @@ pub extern "C" fn capmarrow_flood(
         answer,
     );
     tell_flooding(told, a)
+}
+
+// The path from one cell to another, both included, four words a cell; 12 where there is none. Told: found, count.
+#[no_mangle]
+pub extern "C" fn capmarrow_path(
+    state: &[u64],
+    grid: u64,
+    x: i32,
+    y: i32,
+    z: i32,
+    to_grid: u64,
+    to_x: i32,
+    to_y: i32,
+    to_z: i32,
+    answer: &mut [u64],
+    told: &mut [u64],
+) -> u64
+    ensures { λ r. ⌜ _≡_ {A = (ℕ × List ℕ) × List ℕ} ((r, now (told .exit)), now (answer .exit)) (tellsFilled 2 listingTold (pathOf (now (state .entry)) (cellOf grid x y z) (cellOf «to_grid» «to_x» «to_y» «to_z») (now (answer .entry))) (now (told .entry)) (now (answer .entry))) ⌝ }
+{
+    if told.len() < 2 {
+        return 1;
+    }
+    let from = cell(grid, x, y, z);
+    let to = cell(to_grid, to_x, to_y, to_z);
+    let a = ask::path(state, from, to, answer);
+    tell_listing(told, a)
 }

@@ -6,5 +6,5 @@ pub mod Moving
 pub mod Playing
 pub mod Tallying
 pub mod Following
-pub mod Marking
+pub mod Spreading
 pub mod Wave

@@ -1,159 +1,235 @@
--- A turn of the flood of rows is a turn of the model's flood.
-use Prim.Native.Nat.{ℕ, zero, suc, _+_, _-_, _≤_, _<_}
-use native.Mathlib.Nat.{not-suc-le-zero}
-use native.Mathlib.Numerals.{add-one}
+-- A turn of the flood of rows is a turn of the search among the cells of the unmarked rows.
+use Prim.Native.Nat.{ℕ, zero, suc, _+_, _≤_, _<_}
+use native.Mathlib.Nat.{not-suc-le-zero, mul-le-mul-left}
 use native.Mathlib.Omega.{arith}
 use mathlib.Core.Path.{_≡_, refl, sym, _∙_, ap, subst}
 use mathlib.Core.Logic.{⊎-elim}
-use mathlib.Core.Bool.{Bool, true, false, cond, not}
-use mathlib.Core.List.{List, [], _∷_, _++_, append-assoc, append-nil, List·Memᴰ as Mem, List·Memᴰ·head as head, List·Memᴰ·eq-of-singleton as mem-one, List·Memᴰ·not-nil as mem-nil, Memᴰ·append-left as append-left, Memᴰ·append-right as append-right, List·Memᴰ·append-cases as append-cases, Memᴰ·cast as mem-cast}
-use borrow.Author.Tests.{eq-eqb, ne-eqb}
-use lib.Dec.{eqb}
-use lib.ListN.{length, take, drop, getD, set, length-set, length-append, length-drop, take-append-drop, List·getD-append, drop-of-length-le}
-use lib.Seq.{length-take-le, getD-take, take-suc, drop-cons, take-append-le, drop-append-le, take-all, drop-set-lt, drop-drop, set-set, set-getD}
-use Rattle.model.specs.Lists.{keep, has, each, keys}
+use mathlib.Core.Bool.{true, cond, _&&_, not}
+use mathlib.Core.List.{List, [], _∷_, _++_, append-assoc, List·Memᴰ as Mem, List·Memᴰ·head as head, List·Memᴰ·eq-of-singleton as mem-one, List·Memᴰ·not-nil as mem-nil, Memᴰ·append-right as append-right, List·Memᴰ·append-cases as append-cases, Memᴰ·cast as mem-cast}
+use lib.Dec.{T-not, not-T, eqb, eqb→eq}
+use lib.ListN.{length, take, drop, getD, set, length-set, length-append}
+use lib.Seq.{length-take-le, getD-take, drop-set-lt, drop-drop, getD-set-same, getD-set-other}
+use Rattle.model.specs.Lists.{keep, has, each, keys, count}
 use Rattle.model.specs.Cells.{Cell, same, touch26}
-use Rattle.model.specs.Masks.{bit, touching, leadsTo}
-use Rattle.model.specs.Flood.{visit}
-use Rattle.model.specs.Laws.Orders.{cells}
-use Rattle.model.specs.Laws.Members.{keep-ext, keep-each, keep-out, each-in, each-out, each-append, each-length, Once, once-nil, once-cons, once-keep, once-append, once-shorter}
-use Rattle.model.specs.Laws.Sorted.{asc-once}
-use Rattle.model.specs.Laws.Minus.{minus, minus-out}
-use Rattle.model.specs.Laws.Visits.{visit-queued, visit-closed}
-use Rattle.model.specs.Laws.Floods.{visit-first}
+use Rattle.model.specs.Masks.{bit, leadsTo}
+use Rattle.model.specs.Groups.{reach, part}
+use Rattle.model.specs.Laws.Tests.{and-fst, and-snd, and-both, same-test, cond-yes, cond-no, eqb-of}
+use Rattle.model.specs.Laws.Orders.{cells, numbers, same-of, differ}
+use Rattle.model.specs.Laws.Members.{keep-in, keep-out, keep-length, each-in, each-out, each-append, each-length, count-length, has-of, hasnt-of, mem-or, Once, once-nil, once-cons, once-keep, once-append, once-shorter}
+use Rattle.model.specs.Laws.Reaching.{flood-part}
 use Rattle.model.specs.Places.{offsetAt}
 use Rattle.table.specs.Rows.{table4}
-use Rattle.layout.specs.Rows.{cellsIn}
 use Rattle.map.specs.Rows.{rowCell, rowMask, rowNear, rowFor, onward}
-use Rattle.map.specs.Fronts.{Front, front, pushed}
-use Rattle.map.specs.Standing.{Cells, floodFrom, Floodable, Flooded}
+use Rattle.map.specs.Fronts.{Front, front, isOpen, pushed}
+use Rattle.map.specs.Standing.{Cells, openCells, floodFrom, Floodable, Flooded}
 use Rattle.map.specs.Laws.Lines.{getD-mem}
-use Rattle.map.specs.Laws.Reads.{cells-read, row-occupied, touching-once, touching-in, row-bit, row-lead, onward-cells, onward-under, onward-once}
-use Rattle.map.specs.Laws.Pushes.{isOpen, fresh, Pushed, pushed-one, pushed-all}
-use Rattle.map.proofs.Marking.{marks-more}
+use Rattle.map.specs.Laws.Reads.{row-once, row-bit, row-lead, onward-under, onward-once}
+use Rattle.map.specs.Laws.Unmarked.{counted, onward-touch, touch-onward, onward-back, open-less, open-touching, open-once, open-in}
+use Rattle.map.specs.Laws.Pushes.{fresh, Pushed, pushed-all}
+use Rattle.map.proofs.Spreading.{Spread, spread-start, spread-step, spread-flat, spread-levels, queue-more, mem-some}
 
 -- The rows that are queued.
 abbrev pub queued : Front → List ℕ
 queued f = take (f .end) (f .queue)
 
--- How far a flood is: of the rows that are queued those before h are done.
-pub record Wave (words : List ℕ) (n : ℕ) (t : List (Cell × ℕ)) (seed label : ℕ) (marks₀ queue₀ : List ℕ) (h : ℕ) (f : Front) : Type 0 where
-  pub ends : h ≤ f .end
-  pub fits : f .end ≤ length (f .queue)
-  pub under : (j : ℕ) → Mem j (queued f) → j < n
-  pub once : Once (each (rowCell words) (queued f))
-  pub walk :
-      each (rowCell words) (take h (queued f)) ++ visit (touching touch26 (keys t)) (n - h) (each (rowCell words) (drop h (queued f))) (each (rowCell words) (queued f))
-      ≡ floodFrom t n (rowCell words seed)
-  pub marks : (j : ℕ) → j < n → getD (f .marks) j 0 ≡ cond (has same (each (rowCell words) (queued f)) (rowCell words j)) label (getD marks₀ j 0)
-  pub behind : drop (f .end) (f .queue) ≡ drop (f .end) queue₀
-  pub beyond : drop n (f .marks) ≡ drop n marks₀
-  pub marksKept : length (f .marks) ≡ length marks₀
-  pub queueKept : length (f .queue) ≡ length queue₀
+-- The cells that are reached from a queue among those of `rest`.
+abbrev pub seek : List Cell → List Cell → List Cell
+seek queue rest = reach touch26 (length queue + length rest) queue rest
 
-visit-nil : (list : Cell → List Cell) (n : ℕ) (marked : List Cell) → visit list n [] marked ≡ []
-visit-nil list zero marked = refl
-visit-nil list (suc n) marked = refl
+-- How far a flood is: of the rows that are queued the first h are done. The marks and the queue were these once the seed was queued.
+pub record Wave (words : List ℕ) (n seed label step : ℕ) (marks₁ queue₁ : List ℕ) (h : ℕ) (f : Front) : Type 0 where
+  pub done : List ℕ
+  pub waiting : List ℕ
+  pub number : length done ≡ h
+  pub rows : queued f ≡ done ++ waiting
+  pub fits : f .end ≤ length (f .queue)
+  pub under : (j : ℕ) → Mem j (done ++ waiting) → j < n
+  pub once : Once (done ++ waiting)
+  pub walk : each (rowCell words) done ++ seek (each (rowCell words) waiting) (openCells words n (f .marks)) ≡ part touch26 (rowCell words seed) (openCells words n marks₁)
+  pub spread : Spread (onward words n) seed label step (λ j. getD marks₁ j 0) done waiting (λ j. getD (f .marks) j 0)
+  pub behind : drop (f .end) (f .queue) ≡ drop (f .end) queue₁
+  pub beyond : drop n (f .marks) ≡ drop n marks₁
+  pub marksKept : length (f .marks) ≡ length marks₁
+  pub queueKept : length (f .queue) ≡ length queue₁
+
+seek-nil : (rest : List Cell) → seek [] rest ≡ []
+seek-nil rest = go (0 + length rest)
+  where
+    go : (n : ℕ) → reach touch26 n [] rest ≡ []
+    go zero = refl
+    go (suc n) = refl
+
+seek-next : (c : Cell) (queue rest : List Cell) → seek (c ∷ queue) rest ≡ c ∷ seek (queue ++ keep (touch26 c) rest) (keep (λ d. not (touch26 c d)) rest)
+seek-next c queue rest =
+    let e : length (c ∷ queue) + length rest ≡ suc (length (queue ++ keep (touch26 c) rest) + length (keep (λ d. not (touch26 c d)) rest)) =
+    omega (arith, length-append queue (keep (touch26 c) rest), keep-length (touch26 c) rest) in
+    λ i. reach touch26 (e i) (c ∷ queue) rest
 
 first-set : (queue : List ℕ) (i : ℕ) → 0 < length queue → take 1 (set queue 0 i) ≡ i ∷ []
 first-set [] i h = absurd (not-suc-le-zero h)
 first-set (x ∷ queue) i h = refl
 
--- What is asked holds of the table that is read.
-abbrev pub canon : (words : List ℕ) (n seed label : ℕ) (marks queue : List ℕ) → Floodable words n seed label marks queue → Floodable words n seed label marks queue
-canon words n seed label marks queue a =
-    record {
-      table = cellsIn n words;
-      cells = subst (Cells words n) (sym (cells-read words n (a .table) (a .cells))) (a .cells);
-      seeded = a .seeded;
-      labelled = a .labelled;
-      marksFit = a .marksFit;
-      queueFits = a .queueFits;
-      unmarked = λ j h m. a .unmarked j h (subst (λ t. Mem (rowCell words j) (floodFrom t n (rowCell words seed))) (cells-read words n (a .table) (a .cells)) m);
-    }
+-- What stands behind some members.
+getD-behind : (l : List ℕ) (x : ℕ) (r : List ℕ) → getD (l ++ (x ∷ r)) (length l) 0 ≡ x
+getD-behind [] x r = refl
+getD-behind (y ∷ l) x r = getD-behind l x r
 
-module _ (words : List ℕ) (n seed label : ℕ) (marks₀ queue₀ : List ℕ) (a : Floodable words n seed label marks₀ queue₀) where
-  abbrev t : List (Cell × ℕ)
-  t = a .table
+module _ (words : List ℕ) (n seed label step : ℕ) (marks queue : List ℕ) (a : Floodable words n seed label step marks queue) where
+  abbrev k : Cells words n (a .table)
+  k = a .cells
 
   abbrev cellsOf : List ℕ → List Cell
   cellsOf l = each (rowCell words) l
 
-  abbrev F : List Cell
-  F = floodFrom t n (rowCell words seed)
+  abbrev marks₁ : List ℕ
+  marks₁ = set marks seed label
 
-  keys-long : length (keys t) ≡ n
-  keys-long = each-length (λ (p : Cell × ℕ). p .0) t ∙ sym (a .cells .number)
+  abbrev queue₁ : List ℕ
+  queue₁ = set queue 0 seed
 
-  occupied : (l : List ℕ) → ((j : ℕ) → Mem j l → j < n) → (d : Cell) → Mem d (cellsOf l) → Mem d (keys t)
-  occupied l u d m = let r = each-out (rowCell words) l m in mem-cast (r .2) (row-occupied words n t (a .cells) (r .0) (u (r .0) (r .1)))
+  -- The mark of another row than the seed.
+  other : (j : ℕ) → (j ≡ seed → ⊥) → getD marks₁ j 0 ≡ getD marks j 0
+  other j f = getD-set-other marks seed j label 0 f
+
+  seed-mark : getD marks₁ seed 0 ≡ label
+  seed-mark = getD-set-same marks seed label 0 (omega (arith, a .seeded, a .marksFit))
+
+  -- The flood over the unmarked cells is the part of the seed among those that are unmarked then.
+  flood-is : part touch26 (rowCell words seed) (openCells words n marks₁) ≡ floodFrom (openCells words n marks) (rowCell words seed)
+  flood-is =
+      sym (flood-part touch26 (openCells words n marks) (open-once words n (a .table) k marks) (rowCell words seed) (open-in words n marks seed (a .seeded) (a .unmarked))
+      ∙ ap (part touch26 (rowCell words seed)) (open-less words n (a .table) k (same (rowCell words seed)) marks marks₁ less))
+    where
+      less : (j : ℕ) → j < n → isOpen marks₁ j ≡ (isOpen marks j && not (same (rowCell words seed) (rowCell words j)))
+      less j h =
+          same-test (isOpen marks₁ j) (isOpen marks j && not (same (rowCell words seed) (rowCell words j)))
+          (λ t. let f : j ≡ seed → ⊥ = (λ e. a .labelled (sym seed-mark ∙ ap (λ v. getD marks₁ v 0) (sym e) ∙ eqb→eq (getD marks₁ j 0) 0 t)) in
+          and-both (isOpen marks j) _ (eqb-of (getD marks j 0) 0 (sym (other j f) ∙ eqb→eq (getD marks₁ j 0) 0 t))
+          (differ cells (λ e. f (sym (row-once words n (a .table) k seed j (a .seeded) h e)))))
+          (λ t. eqb-of (getD marks₁ j 0) 0 (other j (λ e. T-not (same (rowCell words seed) (rowCell words j)) (and-snd (isOpen marks j) _ t) (same-of cells (ap (rowCell words) (sym e))))
+          ∙ eqb→eq (getD marks j 0) 0 (and-fst (isOpen marks j) _ t)))
 
   -- The seed is marked and queued.
-  pub wave-start : Wave words n t seed label marks₀ queue₀ 0 (front 1 (set marks₀ seed label) (set queue₀ 0 seed))
+  pub wave-start : Wave words n seed label step marks₁ queue₁ 0 (front 1 marks₁ queue₁)
   wave-start =
-      let s = a .seeded in
-      let e : take 1 (set queue₀ 0 seed) ≡ seed ∷ [] = first-set queue₀ seed (omega (arith, a .queueFits)) in
-      let l = length-set queue₀ 0 seed in
-      let z : n - 0 ≡ n = omega arith in
-      let p : Pushed label n (front 0 marks₀ queue₀) (seed ∷ []) (front 1 (set marks₀ seed label) (set queue₀ 0 seed)) =
-      pushed-one label n (front 0 marks₀ queue₀) seed s (a .marksFit) (omega (arith, a .queueFits)) in
       record {
-        ends = omega arith;
-        fits = omega (arith, a .queueFits);
-        under = λ j m. subst (λ i. i < n) (sym (mem-one (subst (λ q. Mem j q) e m))) s;
-        once = subst (λ q. Once (cellsOf q)) (sym e) (once-cons mem-nil once-nil);
-        walk = (λ i. visit (touching touch26 (keys t)) (z i) (cellsOf (e i)) (cellsOf (e i)));
-        marks = λ j h. marks-more words n t (a .cells) label (front 0 marks₀ queue₀) (front 1 (set marks₀ seed label) (set queue₀ 0 seed)) [] (seed ∷ []) marks₀ p (λ i m. subst (λ v. v < n) (sym (mem-one m)) s) (λ i b. refl) j h ∙ ap (λ q. cond (has same (cellsOf q) (rowCell words j)) label (getD marks₀ j 0)) (sym e);
-        behind = drop-set-lt 1 queue₀ 0 seed (omega arith);
-        beyond = drop-set-lt n marks₀ seed label s;
-        marksKept = length-set marks₀ seed label;
-        queueKept = l;
+        done = [];
+        waiting = seed ∷ [];
+        number = refl;
+        rows = first-set queue seed (omega (arith, a .seeded, a .queueFits));
+        fits = omega (arith, a .seeded, a .queueFits, length-set queue 0 seed);
+        under = λ j m. subst (λ i. i < n) (sym (mem-one m)) (a .seeded);
+        once = once-cons mem-nil once-nil;
+        walk = let e : length (rowCell words seed ∷ []) + length (openCells words n marks₁) ≡ suc (length (openCells words n marks₁)) = omega arith in
+            λ i. reach touch26 (e i) (rowCell words seed ∷ []) (openCells words n marks₁);
+        spread = spread-start (onward words n) seed label step (λ j. getD marks₁ j 0) seed-mark;
+        behind = refl;
+        beyond = refl;
+        marksKept = refl;
+        queueKept = refl;
       }
 
-  module _ (h : ℕ) (f : Front) (w : Wave words n t seed label marks₀ queue₀ h f) where
-    Q-long : length (queued f) ≡ f .end
-    Q-long = length-take-le (f .end) (f .queue) (w .fits)
+  module _ (h : ℕ) (f : Front) (w : Wave words n seed label step marks₁ queue₁ h f) where
+    abbrev Q : List ℕ
+    Q = w .done ++ w .waiting
 
-    C-long : length (cellsOf (queued f)) ≡ f .end
-    C-long = each-length (rowCell words) (queued f) ∙ Q-long
+    abbrev m : ℕ → ℕ
+    m j = getD (f .marks) j 0
+
+    long : length Q ≡ f .end
+    long = ap length (sym (w .rows)) ∙ length-take-le (f .end) (f .queue) (w .fits)
 
     -- At most n rows are queued.
     pub wave-few : f .end ≤ n
-    wave-few = omega (arith, C-long, keys-long, once-shorter (w .once) (keys t) (occupied (queued f) (w .under)))
+    wave-few = omega (arith, long, count-length 0 n, once-shorter (w .once) (count 0 n) (λ j l. counted n j (w .under j l)))
 
     -- Every row has a mark.
     pub wave-fits : n ≤ length (f .marks)
-    wave-fits = omega (arith, a .marksFit, w .marksKept)
+    wave-fits = omega (arith, a .marksFit, w .marksKept, length-set marks seed label)
+
+    -- Every row can be queued.
+    pub wave-room : n ≤ length (f .queue)
+    wave-room = omega (arith, a .queueFits, w .queueKept, length-set queue 0 seed)
 
     -- Once all queued rows are done, the flood is.
-    pub wave-end : f .end ≤ h → Flooded words n seed label marks₀ queue₀ (f .end) (f .marks) (f .queue) t
-    wave-end b =
-        record {
-          number = sym C-long ∙ ap length all;
-          few = wave-few;
-          order = all;
-          rows = λ j g. subst (λ v. v < n) (getD-take (f .end) (f .queue) j 0 g) (w .under (getD (queued f) j 0) (getD-mem (queued f) j 0 (omega (arith, Q-long))));
-          behind = w .behind;
-          reached = λ j g. w .marks j g ∙ ap (λ l. cond (has same l (rowCell words j)) label (getD marks₀ j 0)) all;
-          beyond = w .beyond;
-          marksKept = w .marksKept;
-          queueKept = w .queueKept;
-        }
-      where
-        all : cellsOf (queued f) ≡ F
-        all =
-            sym (append-nil (cellsOf (queued f)))
-            ∙ (λ i. cellsOf (sym (take-all h (queued f) (omega (arith, Q-long))) i) ++ sym (visit-nil (touching touch26 (keys t)) (n - h) (cellsOf (queued f))) i)
-            ∙ ap (λ l. cellsOf (take h (queued f)) ++ visit (touching touch26 (keys t)) (n - h) (cellsOf l) (cellsOf (queued f))) (sym (drop-of-length-le (queued f) {i = h} (omega (arith, Q-long))))
-            ∙ w .walk
+    module _ (b : f .end ≤ h) where
+      none-waits : w .waiting ≡ []
+      none-waits = go (w .waiting) (length-append (w .done) (w .waiting))
+        where
+          go : (l : List ℕ) → length (w .done ++ w .waiting) ≡ length (w .done) + length l → l ≡ []
+          go [] e = refl
+          go (x ∷ l) e = absurd (omega (arith, e, long, w .number))
+
+      all-done : Spread (onward words n) seed label step (λ j. getD marks₁ j 0) (w .done) [] m
+      all-done = subst (λ l. Spread (onward words n) seed label step (λ j. getD marks₁ j 0) (w .done) l m) none-waits (w .spread)
+
+      F : cellsOf Q ≡ floodFrom (openCells words n marks) (rowCell words seed)
+      F =
+          each-append (rowCell words) (w .done) (w .waiting)
+          ∙ ap (λ l. cellsOf (w .done) ++ l) (ap cellsOf none-waits ∙ sym (seek-nil (openCells words n (f .marks))) ∙ ap (λ l. seek (cellsOf l) (openCells words n (f .marks))) (sym none-waits))
+          ∙ w .walk
+          ∙ flood-is
+
+      all : cellsOf (queued f) ≡ floodFrom (openCells words n marks) (rowCell words seed)
+      all = ap cellsOf (w .rows) ∙ F
+
+      size : f .end ≡ length (floodFrom (openCells words n marks) (rowCell words seed))
+      size = sym long ∙ sym (each-length (rowCell words) Q) ∙ ap length F
+
+      flat : step ≡ 0 → (j : ℕ) → j < n → m j ≡ cond (has same (floodFrom (openCells words n marks) (rowCell words seed)) (rowCell words j)) label (getD marks j 0)
+      flat z j u =
+          ⊎-elim
+          (λ l. spread-flat (onward words n) seed label step (λ j. getD marks₁ j 0) z (w .done) (w .waiting) m (w .spread) j l
+          ∙ sym (cond-yes (has same (floodFrom (openCells words n marks) (rowCell words seed)) (rowCell words j)) label (getD marks j 0)
+          (has-of cells (subst (λ q. Mem (rowCell words j) q) F (each-in (rowCell words) l)))))
+          (λ l. w .spread .kept j l ∙ other j (λ e. l (mem-cast e (w .spread .seeded)))
+          ∙ sym (cond-no (has same (floodFrom (openCells words n marks) (rowCell words seed)) (rowCell words j)) label (getD marks j 0)
+          (hasnt-of cells (rowCell words j) (floodFrom (openCells words n marks) (rowCell words seed))
+          (λ q. let r = each-out (rowCell words) Q (subst (λ c. Mem (rowCell words j) c) (sym F) q) in
+          l (mem-cast (row-once words n (a .table) k j (r .0) u (w .under (r .0) (r .1)) (r .2)) (r .1))))))
+          (mem-or numbers j Q)
+
+      pub wave-end : Flooded words n seed label step marks queue (f .end) (f .marks) (f .queue)
+      wave-end =
+          record {
+            number = size;
+            few = wave-few;
+            order = all;
+            rows = λ j g. subst (λ v. v < n) (getD-take (f .end) (f .queue) j 0 g)
+                (w .under (getD (queued f) j 0) (subst (λ l. Mem (getD (queued f) j 0) l) (w .rows) (getD-mem (queued f) j 0 (omega (arith, long, ap length (w .rows))))));
+            behind = w .behind ∙ drop-set-lt (f .end) queue 0 seed some;
+            reached = flat;
+            levels = λ el es z.
+                spread-levels words n seed (λ j. getD marks₁ j 0) (w .done) (f .marks)
+                (subst (λ v. Spread (onward words n) seed v 1 (λ j. getD marks₁ j 0) (w .done) [] m) el (subst (λ v. Spread (onward words n) seed label v (λ j. getD marks₁ j 0) (w .done) [] m) es all-done))
+                (onward-back words n (a .table) k) (λ i j u l. onward-under words n (a .table) k i u j l)
+                (subst (λ q. (j : ℕ) → Mem j (w .done ++ q) → j < n) none-waits (w .under))
+                (omega (arith, wave-few, long, ap (λ q. length (w .done ++ q)) none-waits))
+                (λ j u g. other j g ∙ z j u);
+            beyond = w .beyond ∙ drop-set-lt n marks seed label (a .seeded);
+            marksKept = w .marksKept ∙ length-set marks seed label;
+            queueKept = w .queueKept ∙ length-set queue 0 seed;
+          }
+        where
+          some : 0 < f .end
+          some = omega (arith, long, mem-some Q (w .spread .seeded))
 
     module _ (b : h < f .end) (i : ℕ) (is : i ≡ getD (f .queue) h 0) where
-      i-is : i ≡ getD (queued f) h 0
-      i-is = is ∙ sym (getD-take (f .end) (f .queue) h 0 b)
+      -- The row to be done waits first.
+      next : (W : List ℕ) × (w .waiting ≡ i ∷ W)
+      next = go (w .waiting) refl
+        where
+          go : (l : List ℕ) → w .waiting ≡ l → (W : List ℕ) × (w .waiting ≡ i ∷ W)
+          go [] e = absurd (omega (arith, b, long, w .number, length-append (w .done) (w .waiting), ap length e))
+          go (x ∷ W) e =
+              let at : i ≡ x =
+              is ∙ sym (getD-take (f .end) (f .queue) h 0 b)
+              ∙ (λ d. getD ((w .rows ∙ ap (λ l. w .done ++ l) e) d) (sym (w .number) d) 0)
+              ∙ getD-behind (w .done) x W in
+              (W, e ∙ ap (λ v. v ∷ W) (sym at))
 
-      -- The row to be done is there.
-      pub wave-row : i < n
-      wave-row = subst (λ v. v < n) (sym i-is) (w .under (getD (queued f) h 0) (getD-mem (queued f) h 0 (omega (arith, Q-long))))
+      abbrev W : List ℕ
+      W = next .0
 
       abbrev c : Cell
       c = rowCell words i
@@ -161,207 +237,123 @@ module _ (words : List ℕ) (n seed label : ℕ) (marks₀ queue₀ : List ℕ) 
       abbrev L : List ℕ
       L = onward words n i
 
-      abbrev Qc : List Cell
-      Qc = cellsOf (queued f)
+      i-in : Mem i Q
+      i-in = append-right (w .done) (subst (λ l. Mem i l) (sym (next .1)) (head refl))
 
-      abbrev new : List Cell
-      new = minus same (touching touch26 (keys t) c) Qc
+      -- It is there.
+      pub wave-row : i < n
+      wave-row = w .under i i-in
 
-      ahead : drop h (queued f) ≡ i ∷ drop (suc h) (queued f)
-      ahead = drop-cons (queued f) h 0 (omega (arith, Q-long)) ∙ ap (λ v. v ∷ drop (suc h) (queued f)) (sym i-is)
-
-      enough : length (cellsOf (drop h (queued f))) + length (minus same (keys t) Qc) ≤ n - h
-      enough =
-          omega (
-            arith,
-            b,
-            each-length (rowCell words) (drop h (queued f)),
-            length-drop h (queued f),
-            Q-long,
-            C-long,
-            keys-long,
-            length-append Qc (minus same (keys t) Qc),
-            once-shorter (once-append Qc (minus same (keys t) Qc) (w .once) (once-keep _ (keys t) (asc-once cells (a .cells .asc))) (λ d m j. minus-out cells (keys t) Qc j .1 m))
-                (keys t) (λ d m. ⊎-elim (occupied (queued f) (w .under) d) (λ j. minus-out cells (keys t) Qc j .0) (append-cases Qc m)),
-          )
-
-      come : {d : Cell} → Mem d (cellsOf (drop h (queued f))) → Mem d (visit (touching touch26 (keys t)) (n - h) (cellsOf (drop h (queued f))) Qc)
-      come m = visit-queued (touching touch26 (keys t)) (touching-once words n t (a .cells)) (keys t) (asc-once cells (a .cells .asc)) (touching-in words n t (a .cells)) (n - h) (cellsOf (drop h (queued f))) Qc enough m
-
-      splits : Qc ≡ cellsOf (take h (queued f)) ++ cellsOf (drop h (queued f))
-      splits = ap cellsOf (sym (take-append-drop h (queued f))) ∙ each-append (rowCell words) (take h (queued f)) (drop h (queued f))
-
-      visited : {d : Cell} → Mem d (visit (touching touch26 (keys t)) (n - h) (cellsOf (drop h (queued f))) Qc) → Mem d F
-      visited {d} m = subst (λ l. Mem d l) (w .walk) (append-right (cellsOf (take h (queued f))) m)
-
-      -- The cells of the list are of the flood.
-      listed : {d : Cell} → Mem d (touching touch26 (keys t) c) → Mem d F
-      listed {d} m =
-          ⊎-elim visited
-          (λ j. ⊎-elim (λ k. subst (λ l. Mem d l) (w .walk) (append-left _ k)) (λ k. visited (come k)) (append-cases (cellsOf (take h (queued f))) (subst (λ l. Mem d l) splits j)))
-          (visit-closed (touching touch26 (keys t)) (touching-once words n t (a .cells)) (keys t) (asc-once cells (a .cells .asc)) (touching-in words n t (a .cells)) (n - h) (cellsOf (drop h (queued f))) Qc enough
-          (come (subst (λ l. Mem c (cellsOf l)) (sym ahead) (head refl))) m)
-
-      -- A row of the list is unmarked if its cell is not queued.
-      unmarked-is : (j : ℕ) → Mem j L → isOpen (f .marks) j ≡ not (has same Qc (rowCell words j))
-      unmarked-is j m =
-          let u = onward-under words n t (a .cells) i wave-row j m in
-          let z = a .unmarked j u (listed (subst (λ l. Mem (rowCell words j) l) (onward-cells words n t (a .cells) i wave-row) (each-in (rowCell words) m))) in
-          ap (λ v. eqb v 0) (w .marks j u) ∙ go z (has same Qc (rowCell words j))
-        where
-          go : getD marks₀ j 0 ≡ 0 → (s : Bool) → eqb (cond s label (getD marks₀ j 0)) 0 ≡ not s
-          go z true = ne-eqb label 0 (a .labelled)
-          go z false = eq-eqb (getD marks₀ j 0) 0 z
-
-      -- The unmarked rows of the list have the cells that are new.
-      new-are : cellsOf (fresh f L) ≡ new
-      new-are =
-          ap cellsOf (keep-ext (isOpen (f .marks)) (λ j. not (has same Qc (rowCell words j))) L unmarked-is)
-          ∙ sym (keep-each (rowCell words) (λ d. not (has same Qc d)) L)
-          ∙ ap (keep (λ d. not (has same Qc d))) (onward-cells words n t (a .cells) i wave-row)
-
-      more-once : Once (Qc ++ new)
-      more-once = once-append Qc new (w .once) (once-keep _ (touching touch26 (keys t) c) (touching-once words n t (a .cells) c)) (λ d m j. minus-out cells (touching touch26 (keys t) c) Qc j .1 m)
-
-      more-few : f .end + length (fresh f L) ≤ n
-      more-few =
-          omega (
-            arith,
-            C-long,
-            keys-long,
-            length-append Qc new,
-            ap length new-are,
-            each-length (rowCell words) (fresh f L),
-            once-shorter more-once (keys t) (λ d m. ⊎-elim (occupied (queued f) (w .under) d) (λ j. touching-in words n t (a .cells) c d (minus-out cells (touching touch26 (keys t) c) Qc j .0)) (append-cases Qc m)),
-          )
-
-      pushes : Pushed label n f (fresh f L) (pushed label f L)
-      pushes =
-          pushed-all label n L f (onward-once words n t (a .cells) i wave-row) (onward-under words n t (a .cells) i wave-row)
-          (omega (arith, a .marksFit, w .marksKept)) (omega (arith, more-few, a .queueFits, w .queueKept))
-
-      -- The queue has space for the list.
-      pub wave-space : pushed label f L .end ≤ length (f .queue)
-      wave-space = omega (arith, pushes .end, more-few, a .queueFits, w .queueKept)
-
-      -- The rows of the list are there.
-      pub wave-there : (j : ℕ) → j < 26 → bit (rowMask words i) j ≡ true → rowFor words n (rowNear words i j) < n
-      wave-there = row-lead words n t (a .cells) i wave-row
-
-      -- The mask is exact.
-      pub wave-exact : (j : ℕ) → j < 26 → bit (rowMask words i) j ≡ leadsTo touch26 (keys (table4 5 n words)) (rowCell words i) (offsetAt j)
-      wave-exact = row-bit words n t (a .cells) i wave-row
-
-      abbrev g : Front
-      g = pushed label f L
+      -- The mark of the rows that it leads to is a word.
+      pub wave-small : m i + step < 18446744073709551616
+      wave-small = omega (arith, w .spread .low i i-in, mul-le-mul-left step (subst (λ v. v ≤ n) (sym long) wave-few), a .small)
 
       abbrev R : List ℕ
       R = fresh f L
 
+      R-open : (j : ℕ) → Mem j R → m j ≡ 0
+      R-open j r = eqb→eq (m j) 0 (keep-out (isOpen (f .marks)) L r .1)
+
       R-under : (j : ℕ) → Mem j R → j < n
-      R-under j m = onward-under words n t (a .cells) i wave-row j (keep-out (isOpen (f .marks)) L m .0)
+      R-under j r = onward-under words n (a .table) k i wave-row j (keep-out (isOpen (f .marks)) L r .0)
 
-      cells-more : cellsOf (queued g) ≡ Qc ++ cellsOf R
-      cells-more = ap cellsOf (pushes .queued) ∙ each-append (rowCell words) (queued f) R
+      more-once : Once (Q ++ R)
+      more-once =
+          once-append Q R (w .once) (once-keep (isOpen (f .marks)) L (onward-once words n (a .table) k i wave-row))
+          (λ j q r. let z = R-open j r in let g = w .spread .high j q in a .labelled (omega arith))
 
-      front-part : cellsOf (take (h + 1) (queued g)) ≡ cellsOf (take h (queued f)) ++ (c ∷ [])
-      front-part =
-          let l : h < length (queued f ++ R) = omega (arith, length-append (queued f) R, Q-long) in
-          (λ d. cellsOf (take (add-one h d) (pushes .queued d)))
-          ∙ ap cellsOf (take-suc (queued f ++ R) h 0 l ∙ (λ d. take-append-le h (queued f) R (omega (arith, Q-long)) d ++ ((List·getD-append (queued f) R 0 h (omega (arith, Q-long)) ∙ sym i-is) d ∷ [])))
-          ∙ each-append (rowCell words) (take h (queued f)) (i ∷ [])
+      more-few : f .end + length R ≤ n
+      more-few =
+          omega (
+            arith,
+            long,
+            length-append Q R,
+            count-length 0 n,
+            once-shorter more-once (count 0 n) (λ j q. counted n j (⊎-elim (w .under j) (R-under j) (append-cases Q q))),
+          )
 
-      back-part : cellsOf (drop (h + 1) (queued g)) ≡ cellsOf (drop (suc h) (queued f)) ++ new
-      back-part =
-          (λ d. cellsOf (drop (add-one h d) (pushes .queued d)))
-          ∙ ap cellsOf (drop-append-le (suc h) (queued f) R (omega (arith, Q-long)))
-          ∙ each-append (rowCell words) (drop (suc h) (queued f)) R
-          ∙ ap (λ l. cellsOf (drop (suc h) (queued f)) ++ l) new-are
+      abbrev g : Front
+      g = pushed (m i + step) f L
 
-      turn : visit (touching touch26 (keys t)) (n - h) (cellsOf (drop h (queued f))) Qc ≡ c ∷ visit (touching touch26 (keys t)) (n - (h + 1)) (cellsOf (drop (h + 1) (queued g))) (cellsOf (queued g))
+      pushes : Pushed (m i + step) n f R g
+      pushes =
+          pushed-all (m i + step) n L f (onward-once words n (a .table) k i wave-row) (onward-under words n (a .table) k i wave-row) wave-fits (omega (arith, more-few, wave-room))
+
+      -- The queue has space for the list.
+      pub wave-space : g .end ≤ length (f .queue)
+      wave-space = omega (arith, pushes .end, more-few, wave-room)
+
+      -- The rows of the list are there.
+      pub wave-there : (j : ℕ) → j < 26 → bit (rowMask words i) j ≡ true → rowFor words n (rowNear words i j) < n
+      wave-there = row-lead words n (a .table) k i wave-row
+
+      -- The mask is exact.
+      pub wave-exact : (j : ℕ) → j < 26 → bit (rowMask words i) j ≡ leadsTo touch26 (keys (table4 5 n words)) (rowCell words i) (offsetAt j)
+      wave-exact = row-bit words n (a .table) k i wave-row
+
+      abbrev m′ : ℕ → ℕ
+      m′ j = getD (g .marks) j 0
+
+      R-marked : (j : ℕ) → Mem j R → m′ j ≡ m i + step
+      R-marked j r = pushes .marked j ∙ cond-yes (has eqb R j) (m i + step) (m j) (has-of numbers r)
+
+      old : (j : ℕ) → (Mem j R → ⊥) → m′ j ≡ m j
+      old j r = pushes .marked j ∙ cond-no (has eqb R j) (m i + step) (m j) (hasnt-of numbers j R r)
+
+      all-in : (j : ℕ) → Mem j L → m j ≡ 0 → Mem j R
+      all-in j l z = keep-in (isOpen (f .marks)) l (eqb-of (m j) 0 z)
+
+      less : (j : ℕ) → j < n → isOpen (g .marks) j ≡ (isOpen (f .marks) j && not (touch26 c (rowCell words j)))
+      less j u =
+          same-test (isOpen (g .marks) j) (isOpen (f .marks) j && not (touch26 c (rowCell words j)))
+          (λ t. let z : m′ j ≡ 0 = eqb→eq (m′ j) 0 t in
+          ⊎-elim (λ r. absurd (let e = R-marked j r in let v = w .spread .high i i-in in a .labelled (omega arith)))
+          (λ r. let y : m j ≡ 0 = sym (old j r) ∙ z in
+          and-both (isOpen (f .marks) j) _ (eqb-of (m j) 0 y) (not-T (touch26 c (rowCell words j)) (λ v. r (all-in j (touch-onward words n (a .table) k i j wave-row u v) y))))
+          (mem-or numbers j R))
+          (λ t. eqb-of (m′ j) 0
+          (old j (λ r. T-not (touch26 c (rowCell words j)) (and-snd (isOpen (f .marks) j) _ t) (onward-touch words n (a .table) k i j wave-row (keep-out (isOpen (f .marks)) L r .0)))
+          ∙ eqb→eq (m j) 0 (and-fst (isOpen (f .marks) j) _ t)))
+
+      turn : seek (c ∷ cellsOf W) (openCells words n (f .marks)) ≡ c ∷ seek (cellsOf (W ++ R)) (openCells words n (g .marks))
       turn =
-          let e : n - h ≡ suc (n - (h + 1)) = omega (arith, wave-few) in
-          (λ d. visit (touching touch26 (keys t)) (e d) (cellsOf (ahead d)) Qc)
-          ∙ (λ d. c ∷ visit (touching touch26 (keys t)) (n - (h + 1)) (sym back-part d) (sym (cells-more ∙ ap (λ l. Qc ++ l) new-are) d))
+          seek-next c (cellsOf W) (openCells words n (f .marks))
+          ∙ (λ d. c ∷ seek ((ap (λ l. cellsOf W ++ l) (open-touching words n (a .table) k i wave-row (f .marks)) ∙ sym (each-append (rowCell words) W R)) d)
+          (open-less words n (a .table) k (touch26 c) (f .marks) (g .marks) less d))
 
-      -- The next row is done.
-      pub wave-step : Wave words n t seed label marks₀ queue₀ (h + 1) g
+      more : (w .done ++ (i ∷ [])) ++ (W ++ R) ≡ Q ++ R
+      more = queue-more (w .done) W R i ∙ ap (λ l. (w .done ++ l) ++ R) (sym (next .1))
+
+      -- The row is done.
+      pub wave-step : Wave words n seed label step marks₁ queue₁ (h + 1) g
       wave-step =
           record {
-            ends = omega (arith, pushes .end);
+            done = w .done ++ (i ∷ []);
+            waiting = W ++ R;
+            number = omega (arith, length-append (w .done) (i ∷ []), w .number);
+            rows = pushes .queued ∙ ap (λ l. l ++ R) (w .rows) ∙ sym more;
             fits = omega (arith, wave-space, pushes .queueKept);
-            under = λ j m. ⊎-elim (w .under j) (R-under j) (append-cases (queued f) (subst (λ q. Mem j q) (pushes .queued) m));
-            once = subst Once (sym (cells-more ∙ ap (λ l. Qc ++ l) new-are)) more-once;
+            under = λ j q. ⊎-elim (w .under j) (R-under j) (append-cases Q (subst (λ l. Mem j l) more q));
+            once = subst Once (sym more) more-once;
             walk =
-                ap (λ l. l ++ visit (touching touch26 (keys t)) (n - (h + 1)) (cellsOf (drop (h + 1) (queued g))) (cellsOf (queued g))) front-part
-                ∙ append-assoc (cellsOf (take h (queued f))) (c ∷ []) _
-                ∙ ap (λ l. cellsOf (take h (queued f)) ++ l) (sym turn)
+                ap (λ l. l ++ seek (cellsOf (W ++ R)) (openCells words n (g .marks))) (each-append (rowCell words) (w .done) (i ∷ []))
+                ∙ append-assoc (cellsOf (w .done)) (c ∷ []) (seek (cellsOf (W ++ R)) (openCells words n (g .marks)))
+                ∙ ap (λ l. cellsOf (w .done) ++ l) (sym turn ∙ ap (λ l. seek (cellsOf l) (openCells words n (f .marks))) (sym (next .1)))
                 ∙ w .walk;
-            marks = λ j u.
-                marks-more words n t (a .cells) label f g Qc R marks₀ pushes R-under (w .marks) j u
-                ∙ ap (λ l. cond (has same l (rowCell words j)) label (getD marks₀ j 0)) (sym cells-more);
+            spread =
+                spread-step (onward words n) seed label step (λ j. getD marks₁ j 0) (w .done) W R i m m′ (a .labelled)
+                (subst (λ l. Spread (onward words n) seed label step (λ j. getD marks₁ j 0) (w .done) l m) (next .1) (w .spread))
+                (λ j r. (keep-out (isOpen (f .marks)) L r .0, R-open j r, R-marked j r)) old all-in;
             behind = pushes .behind ∙ deeper;
             beyond = pushes .beyond ∙ w .beyond;
             marksKept = pushes .marksKept ∙ w .marksKept;
             queueKept = pushes .queueKept ∙ w .queueKept;
           }
         where
-          deeper : drop (g .end) (f .queue) ≡ drop (g .end) queue₀
+          deeper : drop (g .end) (f .queue) ≡ drop (g .end) queue₁
           deeper =
-              ap (λ m. drop m (f .queue)) (pushes .end)
+              ap (λ v. drop v (f .queue)) (pushes .end)
               ∙ sym (drop-drop (length R) (f .end) (f .queue))
               ∙ ap (drop (length R)) (w .behind)
-              ∙ drop-drop (length R) (f .end) queue₀
-              ∙ ap (λ m. drop m queue₀) (sym (pushes .end))
-
--- The same with the seed marked and queued beforehand, as the code has it.
-module _ (words : List ℕ) (n seed label : ℕ) (marks queue : List ℕ) (a : Floodable words n seed label marks queue) where
-  flood-first : (rest : List Cell) × (floodFrom (a .table) n (rowCell words seed) ≡ rowCell words seed ∷ rest)
-  flood-first = visit-first (touching touch26 (keys (a .table))) n (rowCell words seed) [] (rowCell words seed ∷ []) (omega (arith, a .seeded))
-
-  seed-open : getD marks seed 0 ≡ 0
-  seed-open = a .unmarked seed (a .seeded) (subst (λ l. Mem (rowCell words seed) l) (sym (flood-first .1)) (head refl))
-
-  -- With the seed's mark taken out the marks are those before.
-  pub marks-back : set (set marks seed label) seed 0 ≡ marks
-  marks-back = set-set marks seed label 0 ∙ ap (set marks seed) (sym seed-open) ∙ set-getD marks seed 0
-
-  -- What is asked still holds.
-  abbrev pub begun : Floodable words n seed label (set (set marks seed label) seed 0) (set queue 0 seed)
-  begun =
-      record {
-        table = a .table;
-        cells = a .cells;
-        seeded = a .seeded;
-        labelled = a .labelled;
-        marksFit = subst (λ l. n ≤ length l) (sym marks-back) (a .marksFit);
-        queueFits = subst (λ m. n ≤ m) (sym (length-set queue 0 seed)) (a .queueFits);
-        unmarked = λ j h m. ap (λ l. getD l j 0) marks-back ∙ a .unmarked j h m;
-      }
-
-  -- The flood begins.
-  pub wave-begun : Wave words n (a .table) seed label (set (set marks seed label) seed 0) (set queue 0 seed) 0 (front 1 (set marks seed label) (set queue 0 seed))
-  wave-begun =
-      subst (λ (f : Front). Wave words n (a .table) seed label (set (set marks seed label) seed 0) (set queue 0 seed) 0 f)
-      (λ i. front 1 (set (marks-back i) seed label) (set-set queue 0 seed seed i))
-      (wave-start words n seed label (set (set marks seed label) seed 0) (set queue 0 seed) begun)
-
-  -- The flood ends.
-  pub wave-over : (r : ℕ) (marks′ queue′ : List ℕ) → Flooded words n seed label (set (set marks seed label) seed 0) (set queue 0 seed) r marks′ queue′ (a .table)
-      → (t : List (Cell × ℕ)) → a .table ≡ t → Flooded words n seed label marks queue r marks′ queue′ t
-  wave-over r marks′ queue′ d t e =
-      subst (Flooded words n seed label marks queue r marks′ queue′) e
-      (record {
-        number = d .number;
-        few = d .few;
-        order = d .order;
-        rows = d .rows;
-        behind = d .behind ∙ drop-set-lt r queue 0 seed some;
-        reached = λ j h. d .reached j h ∙ ap (λ l. cond (has same (floodFrom (a .table) n (rowCell words seed)) (rowCell words j)) label (getD l j 0)) marks-back;
-        beyond = d .beyond ∙ ap (drop n) marks-back;
-        marksKept = d .marksKept ∙ ap length marks-back;
-        queueKept = d .queueKept ∙ length-set queue 0 seed;
-      })
-    where
-      some : 0 < r
-      some = omega (arith, d .number, ap length (flood-first .1))
+              ∙ drop-drop (length R) (f .end) queue₁
+              ∙ ap (λ v. drop v queue₁) (sym (pushes .end))

@@ -1,7 +1,7 @@
 -- How far a flood is, and what it does with a row.
 use Prim.Native.Nat.{ℕ, suc, _≤_, _<_}
 use mathlib.Core.Path.{_≡_}
-use mathlib.Core.Bool.{true, cond}
+use mathlib.Core.Bool.{Bool, true, cond}
 use mathlib.Core.List.{List}
 use lib.Dec.{eqb}
 use lib.ListN.{length, getD, set}
@@ -11,6 +11,10 @@ use Rattle.model.specs.Masks.{bit, leadsTo}
 use Rattle.model.specs.Places.{offsetAt}
 use Rattle.table.specs.Rows.{isTable4, table4}
 use Rattle.map.specs.Rows.{rowCell, rowMask, rowNear, rowFor, onward}
+
+-- Whether a row is unmarked.
+abbrev pub isOpen : List ℕ → ℕ → Bool
+isOpen marks j = eqb (getD marks j 0) 0
 
 -- The marks of the rows, the queue of rows, and where the queue ends.
 pub record Front : Type 0 where

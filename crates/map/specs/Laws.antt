@@ -11,6 +11,7 @@ pub mod Walking
 pub mod Listing
 pub mod Landing
 pub mod Reads
+pub mod Unmarked
 pub mod Pushes
 pub mod Filling
 pub mod Meets

@@ -8,6 +8,7 @@ pub use lookup::depth_cut;
 pub use lookup::flood_into;
 pub use lookup::flood_rows;
 pub use lookup::nearby_into;
+pub use lookup::next_row;
 pub use lookup::write_cell;
 use table::Place;
 use table::find4_near;

@@ -71,7 +71,7 @@ fn near_cell(cells: &[u64], n: usize, i: usize, k: u64) -> Cell
 }
 
 // The row of that cell, looked for from a row that may be any.
-fn next_row(cells: &[u64], n: usize, i: usize, k: u64, near: usize) -> usize
+pub fn next_row(cells: &[u64], n: usize, i: usize, k: u64, near: usize) -> usize
     requires { ⌜ (isTable4 5 n (now cells) ≡ true) × (i < n) × (k < 26) × (leadsTo touch26 (keys (table4 5 n (now cells))) (rowCell (now cells) i) (offsetAt k) ≡ true) ⌝ }
     ensures { λ r. ⌜ r ≡ rowFor (now (cells .entry)) n (rowNear (now (cells .entry)) i k) ⌝ }
 {
@@ -114,17 +114,19 @@ fn follow(
     e
 }
 
-// The flood from the row seed: first in, first out, each row marked when queued, touching cells taken in cell order.
+// The flood from the row seed over the unmarked rows: first in, first out, each row marked when queued, with a step more than the row
+// that leads to it, touching cells taken in cell order.
 pub fn flood_rows(
     cells: &[u64],
     n: usize,
     seed: usize,
     label: u64,
+    step: u64,
     marks: &mut [u64],
     queue: &mut [u64],
 ) -> usize
-    requires { ⌜ Floodable (now cells) n seed label (now marks) (now queue) ⌝ }
-    ensures { λ r. ⌜ ((t : List (CellOf × ℕ)) → Cells (now (cells .entry)) n t → Flooded (now (cells .entry)) n seed label (now (marks .entry)) (now (queue .entry)) r (now (marks .exit)) (now (queue .exit)) t) ⌝ }
+    requires { ⌜ Floodable (now cells) n seed label step (now marks) (now queue) ⌝ }
+    ensures { λ r. ⌜ Flooded (now (cells .entry)) n seed label step (now (marks .entry)) (now (queue .entry)) r (now (marks .exit)) (now (queue .exit)) ⌝ }
 {
     marks[seed] = label;
     queue[0] = seed as u64;
@@ -132,7 +134,8 @@ pub fn flood_rows(
     let mut h = 0;
     while h < e {
         let i = queue[h] as usize;
-        e = follow(cells, n, i, label, marks, queue, e);
+        let next = marks[i] + step;
+        e = follow(cells, n, i, next, marks, queue, e);
         h += 1;
     }
     e

@@ -18,6 +18,7 @@ pub mod Net
 pub mod Visits
 pub mod Floods
 pub mod Floods2
+pub mod Reaching
 pub mod Keys
 pub mod Takes
 pub mod Fine
@@ -40,3 +41,5 @@ pub mod Lock
 pub mod Apart
 pub mod OnGrid
 pub mod FloodOn
+pub mod Leading
+pub mod Steps

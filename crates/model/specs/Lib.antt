@@ -10,6 +10,7 @@ pub mod Questions
 pub mod Consistent
 pub mod Cases
 pub mod Paths
+pub mod Shortest
 pub mod Runs
 pub mod Laws
 pub mod Theorems

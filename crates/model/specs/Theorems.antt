@@ -10,3 +10,5 @@ pub mod Ids
 pub mod UpdateIds
 pub mod Isolation
 pub mod Histories
+pub mod PathExact
+pub mod AskedAlone

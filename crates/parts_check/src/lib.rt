@@ -20,7 +20,7 @@ fn mark_parts(cells: &[u64], m: usize, marks: &mut [u64], queue: &mut [u64])
     let mut i = 0;
     while i < m {
         if marks[i] == 0 {
-            map::flood_rows(cells, m, i, i as u64 + 1, marks, queue);
+            map::flood_rows(cells, m, i, i as u64 + 1, 0, marks, queue);
             i += 1;
         } else {
             i += 1;

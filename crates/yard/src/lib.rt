@@ -19,6 +19,7 @@ pub use ask::nearby;
 pub use ask::neighbour_count;
 pub use ask::newly_emptied;
 pub use ask::newly_occupied;
+pub use ask::path;
 pub use ask::where_is;
 use batch::early_number;
 use batch::move_cell;

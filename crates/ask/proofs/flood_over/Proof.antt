@@ -15,22 +15,22 @@ start w = w .before .before .before .before .before .before .before
 
 -- The rows are flooded.
 done : (w : tie.After-flood-rows) → let s = start w in
-    Flooded (s .args .cells .now) (s .args .n) (s .args .seed) 1 (s .args .marks .now) (s .args .queue .now) (w .flood-rows .result) (w .flood-rows .last .1 .1 .1 .1 .0) (w .flood-rows .last .1 .1 .1 .1 .1 .0) (cellsIn (s .args .n) (s .args .cells .now))
-done w = let s = start w in w .flood-rows .ensures (cellsIn (s .args .n) (s .args .cells .now)) (s .pre .1)
+    Flooded (s .args .cells .now) (s .args .n) (s .args .seed) 1 0 (s .args .marks .now) (s .args .queue .now) (w .flood-rows .result) (w .flood-rows .last .1 .1 .1 .1 .1 .0) (w .flood-rows .last .1 .1 .1 .1 .1 .1 .0)
+done w = w .flood-rows .ensures
 
 -- The rows that are queued are there.
 rows : (w : tie.After-flood-rows) (m : _) → m ≤ w .flood-rows .result → let s = start w in
-    Queued (s .args .cells .now) (s .args .n) (w .flood-rows .last .1 .1 .1 .1 .1 .0) m
+    Queued (s .args .cells .now) (s .args .n) (w .flood-rows .last .1 .1 .1 .1 .1 .1 .0) m
 rows w m g =
     let s = start w in
-    queued (s .args .cells .now) (s .args .n) (cellsIn (s .args .n) (s .args .cells .now)) (s .pre .1) (s .args .seed) (s .pre .0 .seeded) (s .args .marks .now) (s .args .queue .now) (w .flood-rows .result) (w .flood-rows .last .1 .1 .1 .1 .0) (w .flood-rows .last .1 .1 .1 .1 .1 .0) (done w) (s .pre .0 .queueFits) m g
+    queued (s .args .cells .now) (s .args .n) (cellsIn (s .args .n) (s .args .cells .now)) (s .pre .1) (s .args .seed) (s .pre .0 .seeded) (s .args .marks .now) (s .args .queue .now) (w .flood-rows .result) (w .flood-rows .last .1 .1 .1 .1 .1 .0) (w .flood-rows .last .1 .1 .1 .1 .1 .1 .0) (s .pre .3) (done w) (s .pre .0 .queueFits) m g
 
 -- The number is at most that of the rows.
 less : (m : tie.After-least) → m .least .result ≤ m .before .before .before .before .before .before .before .flood-rows .result
 less m =
     let w = m .before .before .before .before .before .before .before in
     let s = start w in
-    number-few (s .args .cells .now) (s .args .n) (cellsIn (s .args .n) (s .args .cells .now)) (s .pre .1) (s .args .seed) (s .pre .0 .seeded) (s .args .marks .now) (s .args .queue .now) (w .flood-rows .result) (w .flood-rows .last .1 .1 .1 .1 .0) (w .flood-rows .last .1 .1 .1 .1 .1 .0) (done w) (s .pre .0 .queueFits)
+    number-few (s .args .cells .now) (s .args .n) (cellsIn (s .args .n) (s .args .cells .now)) (s .pre .1) (s .args .seed) (s .pre .0 .seeded) (s .args .marks .now) (s .args .queue .now) (w .flood-rows .result) (w .flood-rows .last .1 .1 .1 .1 .1 .0) (w .flood-rows .last .1 .1 .1 .1 .1 .1 .0) (s .pre .3) (done w) (s .pre .0 .queueFits)
     (depthOf (s .args .depth)) (s .args .budget) (m .before .left-by .result) (m .least .result) (m .before .left-by .ensures) (m .least .ensures)
 
 -- It is small.
@@ -65,7 +65,7 @@ returns c =
     let m = c .before in
     let w = m .before .before .before .before .before .before .before in
     let s = start w in
-    flooded-long (s .args .cells .now) (s .args .n) (cellsIn (s .args .n) (s .args .cells .now)) (s .pre .1) (s .args .seed) (s .pre .0 .seeded) (s .args .marks .now) (s .args .queue .now) (w .flood-rows .result) (w .flood-rows .last .1 .1 .1 .1 .0) (w .flood-rows .last .1 .1 .1 .1 .1 .0) (done w) (s .pre .0 .queueFits)
+    flooded-long (s .args .cells .now) (s .args .n) (cellsIn (s .args .n) (s .args .cells .now)) (s .pre .1) (s .args .seed) (s .pre .0 .seeded) (s .args .marks .now) (s .args .queue .now) (w .flood-rows .result) (w .flood-rows .last .1 .1 .1 .1 .1 .0) (w .flood-rows .last .1 .1 .1 .1 .1 .1 .0) (s .pre .3) (done w) (s .pre .0 .queueFits)
     (depthOf (s .args .depth)) (s .args .budget) (m .before .left-by .result) (m .least .result) (m .before .left-by .ensures) (m .least .ensures) (s .args .answer .now) (c .if1 .taken)
 
 flood-into-requires : tie.Need-flood-into-requires
@@ -91,7 +91,7 @@ returns-2 c =
     let m = i .before in
     let w = m .before .before .before .before .before .before .before in
     let s = start w in
-    flooded-fits (s .args .cells .now) (s .args .n) (cellsIn (s .args .n) (s .args .cells .now)) (s .pre .1) (s .args .seed) (s .pre .0 .seeded) (s .args .marks .now) (s .args .queue .now) (w .flood-rows .result) (w .flood-rows .last .1 .1 .1 .1 .0) (w .flood-rows .last .1 .1 .1 .1 .1 .0) (done w) (s .pre .0 .queueFits)
+    flooded-fits (s .args .cells .now) (s .args .n) (cellsIn (s .args .n) (s .args .cells .now)) (s .pre .1) (s .args .seed) (s .pre .0 .seeded) (s .args .marks .now) (s .args .queue .now) (w .flood-rows .result) (w .flood-rows .last .1 .1 .1 .1 .1 .0) (w .flood-rows .last .1 .1 .1 .1 .1 .1 .0) (s .pre .3) (done w) (s .pre .0 .queueFits)
     (depthOf (s .args .depth)) (s .args .budget) (m .before .left-by .result) (m .least .result) (m .before .left-by .ensures) (m .least .ensures) (s .args .answer .now) (g .flood-into .last .1 .1 .1 .1 .0) (i .if1 .left) (g .flood-into .ensures)
 
 pub flood-over-spec : {M : Type 1} → statement M

@@ -7,7 +7,7 @@ use mathlib.Core.Logic.{⊎-elim}
 use mathlib.Core.List.{List, [], _∷_}
 use mathlib.Core.Option.{none, some}
 use lib.Dec.{leb}
-use lib.ListN.{length, take, replicate, length-replicate, getD-replicate, length-take}
+use lib.ListN.{length, take, getD, replicate, length-replicate, getD-replicate, length-take}
 use lib.Seq.{take-take, take-all, take-nil, take-length}
 use borrow.Author.Tests.{le-leb}
 use Rattle.component.specs.Laws.Tests.{le-or-lt}
@@ -15,13 +15,14 @@ use Rattle.model.specs.Lists.{has, keys, gather}
 use Rattle.model.specs.Cells.{Cell, same, touch26}
 use Rattle.model.specs.Masks.{touching}
 use Rattle.model.specs.Flood.{Flood, Depth, within, cutAt, visit, wholeFlood, flood}
-use Rattle.model.specs.Laws.Members.{each-length, whilst-shorter}
+use Rattle.model.specs.Laws.Members.{whilst-shorter}
 use Rattle.map.specs.Rows.{rowCell}
 use Rattle.map.specs.Standing.{Cells, Floodable, Flooded, floodFrom}
 use Rattle.map.specs.Answers.{answerWords, filled, Queued, cellsOfRows}
 use Rattle.map.specs.Laws.Filling.{words-long, rows-long}
 use Rattle.map.specs.Laws.Meets.{flood-whole, rows-front, cut-front}
 use Rattle.map.specs.Laws.Reads.{row-occupied}
+use Rattle.map.specs.Laws.Unmarked.{open-all}
 use Rattle.ask.specs.declared.Flooding.{Flooding}
 use Rattle.ask.specs.Answers.{visited, flooded}
 use Rattle.ask.specs.Parts.{having}
@@ -67,21 +68,26 @@ flooded-none t c depth budget answer e =
     fitted-none Flooding.TooLong (Flooding.NotFound (record { number = 0; «was_all» = true })) answer
     ∙ (λ i. flooded (sym e i) (flood-none t c depth budget e i) answer)
 
+-- At first no row is marked.
+pub none-marked : (n m : ℕ) → n ≤ m → (j : ℕ) → j < n → getD {A = ℕ} (replicate m 0) j 0 ≡ 0
+none-marked n m g j h = getD-replicate m j 0 0 (omega arith)
+
 module _ (words : List ℕ) (n : ℕ) (t : List (Cell × ℕ)) (k : Cells words n t) (seed : ℕ) (h : seed < n) where
-  -- A flood can begin with no row marked.
-  pub floodable : (m : ℕ) → n ≤ m → Floodable words n seed 1 (replicate m 0) (replicate m 0)
+  -- A flood can begin.
+  pub floodable : (m : ℕ) → n ≤ m → Floodable words n seed 1 0 (replicate m 0) (replicate m 0)
   floodable m g =
       record {
         table = t;
         cells = k;
         seeded = h;
+        unmarked = none-marked n m g seed h;
         labelled = λ e. omega arith;
+        small = omega arith;
         marksFit = omega (arith, length-replicate {A = ℕ} m 0);
         queueFits = omega (arith, length-replicate {A = ℕ} m 0);
-        unmarked = λ j l x. getD-replicate m j 0 0 (omega arith);
       }
 
-  module _ (marks queue : List ℕ) (r : ℕ) (marks′ queue′ : List ℕ) (d : Flooded words n seed 1 marks queue r marks′ queue′ t) (room : n ≤ length queue) where
+  module _ (marks queue : List ℕ) (r : ℕ) (marks′ queue′ : List ℕ) (clear : (j : ℕ) → j < n → getD marks j 0 ≡ 0) (d : Flooded words n seed 1 0 marks queue r marks′ queue′) (room : n ≤ length queue) where
     -- The rows that are queued are there.
     pub queued : (m : ℕ) → m ≤ r → Queued words n queue′ m
     queued m g = record { fits = k .fits; few = omega (arith, d .few, d .queueKept); there = λ j l. d .rows j (omega arith) }
@@ -98,7 +104,7 @@ module _ (words : List ℕ) (n : ℕ) (t : List (Cell × ℕ)) (k : Cells words 
 
       whole-is : cellsOfRows words queue′ r ≡ all
       whole-is =
-          d .order ∙ ap (λ (m : ℕ). floodFrom t m c) (k .number ∙ sym (each-length (λ (p : Cell × ℕ). p .0) t)) ∙ sym (flood-whole (having t .occupancy) c (row-occupied words n t k seed h))
+          d .order ∙ ap (λ (l : List Cell). floodFrom l c) (open-all words n t k marks clear) ∙ sym (flood-whole (having t .occupancy) c (row-occupied words n t k seed h))
 
       left-is : left ≡ length cut
       left-is = el ∙ ap (λ (l : List Cell). length (cutAt depth c l)) whole-is

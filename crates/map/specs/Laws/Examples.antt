@@ -34,13 +34,17 @@ pub four-stand : Cells (cellsImage 25 table) 4 table
 four-stand = cells-of table masks-exact 25 ascends (omega arith)
 
 -- From the first the three are reached, one behind the other.
-pub three-reached : floodFrom table 4 (at 10 10 10) ≡ at 10 10 10 ∷ at 10 10 11 ∷ at 10 11 12 ∷ []
+pub three-reached : floodFrom four (at 10 10 10) ≡ at 10 10 10 ∷ at 10 10 11 ∷ at 10 11 12 ∷ []
 three-reached = refl
 
 -- From the middle those that it touches come in cell order.
-pub middle-first : floodFrom table 4 (at 10 10 11) ≡ at 10 10 11 ∷ at 10 10 10 ∷ at 10 11 12 ∷ []
+pub middle-first : floodFrom four (at 10 10 11) ≡ at 10 10 11 ∷ at 10 10 10 ∷ at 10 11 12 ∷ []
 middle-first = refl
 
 -- The last is alone.
-pub last-alone : floodFrom table 4 (at 20 20 20) ≡ at 20 20 20 ∷ []
+pub last-alone : floodFrom four (at 20 20 20) ≡ at 20 20 20 ∷ []
 last-alone = refl
+
+-- Over the others the first is alone too: the middle is a wall then.
+pub wall-between : floodFrom (at 10 10 10 ∷ at 10 11 12 ∷ at 20 20 20 ∷ []) (at 10 10 10) ≡ at 10 10 10 ∷ []
+wall-between = refl

@@ -13,17 +13,17 @@ use Rattle.model.specs.Laws.Tests.{cond-yes}
 use Rattle.model.specs.Laws.Orders.{cells}
 use Rattle.model.specs.Laws.Members.{has-of}
 use Rattle.map.specs.Rows.{rowCell}
-use Rattle.map.specs.Standing.{floodFrom, Flooded}
+use Rattle.map.specs.Standing.{openCells, floodFrom, Flooded}
 use Rattle.map.specs.Answers.{cellsOfRows}
 use Rattle.map.specs.Laws.Lines.{each-take}
 
 -- The whole flood of an occupied cell is the flood from it.
-pub flood-whole : (o : Occupancy) (c : Cell) → Mem c (occupied o) → wholeFlood touch26 o c ≡ floodFrom (o .masks) (length (occupied o)) c
+pub flood-whole : (o : Occupancy) (c : Cell) → Mem c (occupied o) → wholeFlood touch26 o c ≡ floodFrom (occupied o) c
 flood-whole o c m = cond-yes (has same (occupied o) c) _ _ (has-of cells m)
 
 -- The cells of the first rows that are queued are the first of the flood.
-pub rows-front : {words : List ℕ} {n seed label : ℕ} {marks queue : List ℕ} {r : ℕ} {marks′ queue′ : List ℕ} {t : List (Cell × ℕ)}
-    → Flooded words n seed label marks queue r marks′ queue′ t → (m : ℕ) → m ≤ r → cellsOfRows words queue′ m ≡ take m (floodFrom t n (rowCell words seed))
+pub rows-front : {words : List ℕ} {n seed label step : ℕ} {marks queue : List ℕ} {r : ℕ} {marks′ queue′ : List ℕ}
+    → Flooded words n seed label step marks queue r marks′ queue′ → (m : ℕ) → m ≤ r → cellsOfRows words queue′ m ≡ take m (floodFrom (openCells words n marks) (rowCell words seed))
 rows-front {words} {r = r} {queue′ = queue′} d m h =
     ap (each (rowCell words)) (sym (take-take m r queue′ h)) ∙ each-take (rowCell words) m (take r queue′) ∙ ap (take m) (d .order)
 

@@ -11,11 +11,7 @@ use lib.ListN.{length, take, drop, getD, set, length-set}
 use lib.Seq.{take-suc-set, drop-set-lt, getD-set-same, getD-set-other}
 use Rattle.model.specs.Lists.{keep, has}
 use Rattle.model.specs.Laws.Members.{keep-ext, Once, once-head, once-tail}
-use Rattle.map.specs.Fronts.{Front, front, pushed}
-
--- Whether a row is unmarked.
-abbrev pub isOpen : List ℕ → ℕ → Bool
-isOpen marks j = eqb (getD marks j 0) 0
+use Rattle.map.specs.Fronts.{Front, front, isOpen, pushed}
 
 -- The unmarked of some rows.
 abbrev pub fresh : Front → List ℕ → List ℕ
@@ -88,13 +84,9 @@ module _ (label : ℕ) where
             ∙ sym (ap (λ b. cond (b || has eqb R j) label (getD (f .marks) j 0)) u)
 
     -- No row, and nothing changed.
-    pub pushed-nothing : (f : Front) → Pushed label n f [] f
+    pushed-nothing : (f : Front) → Pushed label n f [] f
     pushed-nothing f =
         record { end = sym (add-zero (f .end)); queued = sym (append-nil (take (f .end) (f .queue))); behind = refl; marked = λ j. refl; beyond = refl; marksKept = refl; queueKept = refl }
-
-    -- One unmarked row.
-    pub pushed-one : (f : Front) (x : ℕ) → x < n → n ≤ length (f .marks) → f .end < length (f .queue) → Pushed label n f (x ∷ []) (onto f x)
-    pushed-one f x h m s = over f x [] (onto f x) h m s (pushed-nothing (onto f x))
 
     -- After rows that come once are pushed, the unmarked ones are queued and marked.
     pub pushed-all : (l : List ℕ) (f : Front) → Once l → ((j : ℕ) → Mem j l → j < n) → n ≤ length (f .marks) → f .end + length (fresh f l) ≤ length (f .queue) → Pushed label n f (fresh f l) (pushed label f l)

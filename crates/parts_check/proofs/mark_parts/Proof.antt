@@ -4,7 +4,7 @@ use Rattle.model.specs.Cells.{Cell}
 use Rattle.map.specs.Standing.{Cells}
 use Rattle.parts_check.specs.Parts.{Labelled}
 use Rattle.parts_check.specs.Laws.Parts.{labels-start, labels-skip, labels-asks, labels-flood}
-use Prim.Native.Nat.{ℕ, _-_, _≤_}
+use Prim.Native.Nat.{ℕ, _+_, _-_, _≤_, _<_}
 use native.Mathlib.Omega.{arith}
 use mathlib.Core.Path.{_≡_, refl, _∙_, subst}
 use borrow.Author.Needs.{needs}
@@ -41,7 +41,8 @@ flood-rows-requires c κs =
     let g = l .loop .inv .2 in
     let a = s .pre .marksFit in
     let b = s .pre .queueFits in
-    labels-asks (s .args .cells .now) (s .args .m) (s .pre .stands .table) (s .pre .stands .cells) (l .loop .i) (l .loop .marks) (l .loop .inv .3 (s .pre .stands .table) (s .pre .stands .cells)) (l .loop .queue) (c .before .before .before .before .loop-test .taken) (c .before .before .if1 .taken) (omega arith) (omega arith)
+    let u : l .loop .i + 1 < 18446744073709551616 = search needs in
+    labels-asks (s .args .cells .now) (s .args .m) (s .pre .stands .table) (s .pre .stands .cells) (l .loop .i) (l .loop .marks) (l .loop .inv .3 (s .pre .stands .table) (s .pre .stands .cells)) (l .loop .queue) (c .before .before .before .before .loop-test .taken) (c .before .before .if1 .taken) u (omega arith) (omega arith)
 
 add-i : tie.Need-add-i Inv-loop μ-loop
 add-i c = search needs
@@ -54,11 +55,11 @@ loop-again c =
     let s = c .before .before .before .before .before .before .before .before .before .before .before .before .before .before in
     let l = c .before .before .before .before .before .before .before .before .before .before in
     let h = c .before .before .before .before .before .before .before .before .before .loop-test .taken in
-    let f = c .before .before .before .before .flood-rows .ensures (s .pre .stands .table) (s .pre .stands .cells) in (
+    let f = c .before .before .before .before .flood-rows .ensures in (
       omega arith,
       f .marksKept ∙ l .loop .inv .1,
       f .queueKept ∙ l .loop .inv .2,
-      λ t k. labels-flood (s .args .cells .now) (s .args .m) t k (l .loop .i) (l .loop .marks) (l .loop .inv .3 t k) h (c .before .before .before .before .before .before .before .if1 .taken) _ (c .before .before .before .before .flood-rows .ensures t k .reached),
+      λ t k. labels-flood (s .args .cells .now) (s .args .m) t k (l .loop .i) (l .loop .marks) (l .loop .inv .3 t k) h (c .before .before .before .before .before .before .before .if1 .taken) _ (f .reached refl),
     )
 
 add-i-2 : tie.Need-add-i-2 Inv-loop μ-loop

@@ -4,57 +4,26 @@ use native.Mathlib.Omega.{arith}
 use mathlib.Core.Path.{_≡_, refl, sym, ap, _∙_, subst}
 use mathlib.Core.Logic.{_⊎_, inl, inr, ⊎-elim}
 use mathlib.Core.Bool.{Bool, true, false, cond}
-use mathlib.Core.List.{List, [], _∷_, List·Memᴰ as Mem}
-use lib.Dec.{ltb, ltb→lt}
+use mathlib.Core.List.{List, _∷_, List·Memᴰ as Mem, List·Memᴰ·head as head, List·Memᴰ·tail as tail, List·Memᴰ·cases-cons as mem-cons, Memᴰ·cast as mem-cast}
+use lib.Dec.{T-not, ltb→lt}
 use lib.ListN.{length, getD}
-use Rattle.model.specs.Lists.{has, keys, values, count}
-use Rattle.model.specs.Cells.{Cell, same, below, touch26}
-use Rattle.model.specs.Occupancy.{Occupancy}
-use Rattle.model.specs.Masks.{touching}
-use Rattle.model.specs.Flood.{visit, wholeFlood}
-use Rattle.model.specs.Paths.{stop, Joined}
-use Rattle.model.specs.Laws.Tests.{T-true, T-false, cond-yes}
-use Rattle.model.specs.Laws.Orders.{cells, numbers, order-cases}
-use Rattle.model.specs.Laws.Members.{each-length, has-of, of-has}
-use Rattle.model.specs.Laws.Sorted.{Asc, count-asc, ascending-same}
-use Rattle.model.specs.Laws.Occupied.{Sound}
+use Rattle.model.specs.Lists.{has, keys, count, without}
+use Rattle.model.specs.Cells.{Cell, same, touch26}
+use Rattle.model.specs.Groups.{part}
+use Rattle.model.specs.Paths.{stop, step, Path, Joined}
+use Rattle.model.specs.Laws.Tests.{T-true, T-false}
+use Rattle.model.specs.Laws.Orders.{cells, numbers, is-or, order-cases}
+use Rattle.model.specs.Laws.Members.{each-out, has-of, of-has, without-in, without-out}
 use Rattle.model.specs.Laws.Touching.{touching-26}
-use Rattle.model.specs.Laws.Walks.{join, back}
-use Rattle.model.specs.Laws.Floods.{whole-in, whole-out}
+use Rattle.model.specs.Laws.Walks.{wider, join, back, part-path, part-of-path}
+use Rattle.model.specs.Laws.Reaching.{flood-part}
 use Rattle.map.specs.Rows.{rowCell}
-use Rattle.map.specs.Standing.{Cells, Floodable, floodFrom}
+use Rattle.map.specs.Standing.{Cells, openCells, floodFrom, Floodable}
 use Rattle.map.specs.Laws.Reads.{row-occupied}
+use Rattle.map.specs.Laws.Unmarked.{counted-under, rows-keys, open-once, open-in, open-out}
 use Rattle.parts_check.specs.Parts.{Linked, Labelled}
 
--- One entity in each cell.
-numbered : ℕ → List Cell → List (ℕ × Cell)
-numbered k [] = []
-numbered k (c ∷ l) = (k, c) ∷ numbered (suc k) l
-
-numbered-keys : (k : ℕ) (l : List Cell) → keys (numbered k l) ≡ count k (length l)
-unfolding numbered
-numbered-keys k [] = refl
-numbered-keys k (c ∷ l) = ap (λ m. k ∷ m) (numbered-keys (suc k) l)
-
-numbered-values : (k : ℕ) (l : List Cell) → values (numbered k l) ≡ l
-unfolding numbered
-numbered-values k [] = refl
-numbered-values k (c ∷ l) = ap (λ m. c ∷ m) (numbered-values (suc k) l)
-
 module _ (words : List ℕ) (n : ℕ) (t : List (Cell × ℕ)) (k : Cells words n t) where
-  -- The cells, with an entity in each.
-  filled : Occupancy
-  filled = record { entities = numbered 0 (keys t); masks = t; newlyOccupied = []; newlyEmptied = [] }
-
-  sound : Sound touch26 filled
-  unfolding filled
-  sound =
-      record {
-        asc = subst (λ (l : List ℕ). Asc ltb l) (sym (numbered-keys 0 (keys t))) (count-asc 0 (length (keys t)));
-        cells = sym (ap (Rattle.model.specs.Lists.ascending below) (numbered-values 0 (keys t)) ∙ ascending-same cells (keys t) (k .asc));
-        exact = k .exact;
-      }
-
   there : (j : ℕ) → j < n → Mem (rowCell words j) (keys t)
   there j h = row-occupied words n t k j h
 
@@ -66,22 +35,6 @@ module _ (words : List ℕ) (n : ℕ) (t : List (Cell × ℕ)) (k : Cells words 
 
   linked-back : {a b : Cell} → Joined touch26 (keys t) a b → Joined touch26 (keys t) b a
   linked-back w = back touch26 (touching-26 .flip) w
-
-  module _ (i : ℕ) (h : i < n) where
-    flood-is : floodFrom t n (rowCell words i) ≡ wholeFlood touch26 filled (rowCell words i)
-    unfolding filled
-    flood-is =
-        ap (λ m. visit (touching touch26 (keys t)) m (rowCell words i ∷ []) (rowCell words i ∷ [])) (k .number ∙ sym (each-length (λ (p : Cell × ℕ). p .0) t))
-        ∙ sym (cond-yes (has same (keys t) (rowCell words i)) _ _ (has-of cells (there i h)))
-
-    -- A flood from a row reaches exactly the rows linked to it.
-    pub reached-linked : (j : ℕ) → Mem (rowCell words j) (floodFrom t n (rowCell words i)) → Linked words t i j
-    unfolding filled
-    reached-linked j m = whole-out touch26 filled sound (rowCell words i) (there i h) (subst (λ l. Mem (rowCell words j) l) flood-is m) .1
-
-    pub linked-reached : (j : ℕ) → Linked words t i j → Mem (rowCell words j) (floodFrom t n (rowCell words i))
-    unfolding filled
-    linked-reached j w = subst (λ l. Mem (rowCell words j) l) (sym flood-is) (whole-in touch26 filled sound (rowCell words i) (there i h) w)
 
   -- No row is passed yet.
   pub labels-start : (marks : List ℕ) → ((j : ℕ) → j < n → getD marks j 0 ≡ 0) → Labelled words n t 0 marks
@@ -110,58 +63,92 @@ module _ (words : List ℕ) (n : ℕ) (t : List (Cell × ℕ)) (k : Cells words 
             go zero q = m q
             go (suc f) q = let r = d .some i f h q in d .none j g e f (r .0) (linked-on (r .1) w)
 
-    -- What a flood from a row that is not marked asks of the marks.
-    pub labels-free : (h : i < n) → getD marks i 0 ≡ 0 → (j : ℕ) → j < n → Mem (rowCell words j) (floodFrom t n (rowCell words i)) → getD marks j 0 ≡ 0
-    labels-free h z j g m = go (getD marks j 0) refl
+    -- A row that is not marked is linked to none that is.
+    labels-free : i < n → getD marks i 0 ≡ 0 → (j : ℕ) → j < n → Linked words t j i → getD marks j 0 ≡ 0
+    labels-free h z j g w = go (getD marks j 0) refl
       where
         go : (x : ℕ) → getD marks j 0 ≡ x → getD marks j 0 ≡ 0
         go zero q = q
-        go (suc f) q =
-            let r = d .some j f g q in
-            absurd (d .none i h z f (r .0) (linked-on (r .1) (linked-back (reached-linked i h j m))))
+        go (suc f) q = let r = d .some j f g q in absurd (d .none i h z f (r .0) (linked-on (r .1) w))
 
-    -- A row that is not marked can be flooded from.
-    pub labels-asks : (queue : List ℕ) → i < n → getD marks i 0 ≡ 0 → n ≤ length marks → n ≤ length queue → Floodable words n i (i + 1) marks queue
-    labels-asks queue h z a b =
+    -- It can be flooded from.
+    pub labels-asks : (queue : List ℕ) → i < n → getD marks i 0 ≡ 0 → i + 1 < 18446744073709551616 → n ≤ length marks → n ≤ length queue → Floodable words n i (i + 1) 0 marks queue
+    labels-asks queue h z u a b =
         record {
           table = t;
           cells = k;
           seeded = h;
+          unmarked = z;
           labelled = λ e. absurd (omega arith);
+          small = omega arith;
           marksFit = a;
           queueFits = b;
-          unmarked = labels-free h z;
         }
+
+    module _ (h : i < n) (z : getD marks i 0 ≡ 0) where
+      abbrev c : Cell
+      c = rowCell words i
+
+      abbrev free : List Cell
+      free = openCells words n marks
+
+      flood-is : floodFrom free c ≡ part touch26 c (without same c free)
+      flood-is = flood-part touch26 free (open-once words n t k marks) c (open-in words n marks i h z)
+
+      -- The flood reaches only rows linked to it.
+      reached-linked : (j : ℕ) → Mem (rowCell words j) (floodFrom free c) → Linked words t i j
+      reached-linked j m = linked-back (wider touch26 occupied (part-path touch26 (touching-26 .flip) c (without same c free) (subst (λ l. Mem (rowCell words j) l) flood-is m)))
+        where
+          occupied : (x : Cell) → Mem x (c ∷ without same c free) → Mem x (keys t)
+          occupied x v =
+              ⊎-elim (λ e. mem-cast e (there i h))
+              (λ o. let r = open-out words n marks (without-out cells c free o .0) in mem-cast (r .3) (there (r .0) (r .1))) (mem-cons v)
+
+      -- A cell that is linked to it is not marked.
+      stays-open : (x : Cell) → Mem x (keys t) → Joined touch26 (keys t) x c → Mem x (c ∷ without same c free)
+      stays-open x v w =
+          let r = each-out (rowCell words) (count 0 n) (subst (λ l. Mem x l) (sym (rows-keys words n t k)) v) in
+          let g = counted-under n (r .0) (r .1) in
+          let o : Mem x free = mem-cast (r .2) (open-in words n marks (r .0) g (labels-free h z (r .0) g (subst (λ y. Joined touch26 (keys t) y c) (r .2) w))) in
+          ⊎-elim (λ e. head e) (λ e. tail (without-in cells c o e)) (is-or cells x c)
+
+      open-path : {x : Cell} → Joined touch26 (keys t) x c → Path touch26 (λ y. Mem y (c ∷ without same c free)) x c
+      open-path (stop v e) = stop (head e) e
+      open-path {x} (step v u w) = step (stays-open x v (step v u w)) u (open-path w)
+
+      -- It reaches all of them.
+      linked-reached : (j : ℕ) → Linked words t i j → Mem (rowCell words j) (floodFrom free c)
+      linked-reached j w = subst (λ l. Mem (rowCell words j) l) (sym flood-is) (part-of-path touch26 (touching-26 .flip) c (without same c free) (open-path (linked-back w)))
 
     -- A row that is not marked is flooded from.
     pub labels-flood : (h : i < n) → getD marks i 0 ≡ 0 → (marks′ : List ℕ)
-        → ((j : ℕ) → j < n → getD marks′ j 0 ≡ cond (has same (floodFrom t n (rowCell words i)) (rowCell words j)) (i + 1) (getD marks j 0))
+        → ((j : ℕ) → j < n → getD marks′ j 0 ≡ cond (has same (floodFrom (openCells words n marks) (rowCell words i)) (rowCell words j)) (i + 1) (getD marks j 0))
         → Labelled words n t (i + 1) marks′
     labels-flood h z marks′ f = record { none = none′; some = some′ }
       where
         none′ : (j : ℕ) → j < n → getD marks′ j 0 ≡ 0 → (l : ℕ) → l < i + 1 → Linked words t l j → ⊥
-        none′ j g e l q w = go (has same (floodFrom t n (rowCell words i)) (rowCell words j)) refl
+        none′ j g e l q w = go (has same (floodFrom (openCells words n marks) (rowCell words i)) (rowCell words j)) refl
           where
-            go : (b : Bool) → has same (floodFrom t n (rowCell words i)) (rowCell words j) ≡ b → ⊥
+            go : (b : Bool) → has same (floodFrom (openCells words n marks) (rowCell words i)) (rowCell words j) ≡ b → ⊥
             go true x = let y = f j g ∙ ap {B = ℕ} (λ (b : Bool). cond b (i + 1) (getD marks j 0)) x in omega arith
             go false x =
                 let y = sym (f j g ∙ ap {B = ℕ} (λ (b : Bool). cond b (i + 1) (getD marks j 0)) x) ∙ e in
                 ⊎-elim (λ u. d .none j g y l (ltb→lt l i u) w)
                 (λ u. ⊎-elim
-                (λ v. lib.Dec.T-not (has same (floodFrom t n (rowCell words i)) (rowCell words j)) (T-false x)
-                (has-of cells (linked-reached i h j (subst (λ a. Linked words t a j) v w))))
+                (λ v. T-not (has same (floodFrom (openCells words n marks) (rowCell words i)) (rowCell words j)) (T-false x)
+                (has-of cells (linked-reached h z j (subst (λ a. Linked words t a j) v w))))
                 (λ v. absurd (let a = ltb→lt i l v in omega arith)) u)
                 (order-cases numbers l i)
 
         some′ : (j l : ℕ) → j < n → getD marks′ j 0 ≡ suc l → (l < i + 1) × Linked words t l j × ((a : ℕ) → a < l → Linked words t a l → ⊥)
-        some′ j l g e = go (has same (floodFrom t n (rowCell words i)) (rowCell words j)) refl
+        some′ j l g e = go (has same (floodFrom (openCells words n marks) (rowCell words i)) (rowCell words j)) refl
           where
-            go : (b : Bool) → has same (floodFrom t n (rowCell words i)) (rowCell words j) ≡ b → (l < i + 1) × Linked words t l j × ((a : ℕ) → a < l → Linked words t a l → ⊥)
+            go : (b : Bool) → has same (floodFrom (openCells words n marks) (rowCell words i)) (rowCell words j) ≡ b → (l < i + 1) × Linked words t l j × ((a : ℕ) → a < l → Linked words t a l → ⊥)
             go true x =
                 let y = sym (f j g ∙ ap {B = ℕ} (λ (b : Bool). cond b (i + 1) (getD marks j 0)) x) ∙ e in
                 let q : i ≡ l = omega arith in (
                   omega arith,
-                  subst (λ a. Linked words t a j) q (reached-linked i h j (of-has cells (floodFrom t n (rowCell words i)) (T-true x))),
+                  subst (λ a. Linked words t a j) q (reached-linked h z j (of-has cells (floodFrom (openCells words n marks) (rowCell words i)) (T-true x))),
                   subst (λ m. (a : ℕ) → a < m → Linked words t a m → ⊥) q (λ a u w. d .none i h z a u w),
                 )
             go false x =

@@ -1,0 +1,4 @@
+pub mod Away
+pub mod Stepping
+pub mod Walking
+pub mod Waves
