@@ -13,24 +13,24 @@ use table::Place;
 ghost use mathlib.Core.Path.{_≡_};
 ghost use mathlib.Core.Bool.{true};
 ghost use mathlib.Core.List.{_∷_, []};
-ghost use Prim.Native.Nat.{ℕ, _+_, _*_, _≤_, _<_, min};
+ghost use Prim.Native.Nat.{_+_, _*_, _≤_, _<_, min};
 ghost use lib.Dec.{eqb};
 ghost use lib.ListN.{length, getD, take};
 ghost use Rattle.component.specs.Range.{cellInRange};
 ghost use Rattle.component.specs.Stored.{unbiased};
 ghost use Rattle.model.specs.Lists.{get, has, keys, gather};
 ghost use Rattle.model.specs.Cells.{same, touch26};
-ghost use Rattle.model.specs.Flood.{cutAt, flood as floodBy};
+ghost use Rattle.model.specs.Flood.{wholeFlood, floodCells, flood as floodBy};
 ghost use Rattle.model.specs.Questions.{onesOf, nearby as nearbyBy, cube as cubeBy};
 ghost use Rattle.table.specs.Rows.{table1, isTable1, isTable4};
 ghost use Rattle.layout.specs.Rows.{entitiesIn, cellsIn, netIn, idsIn, groupsIn};
 ghost use Rattle.layout.specs.State.{entityWords, cellWords, occupiedWords, emptiedWords, idWords, groupWords};
 ghost use Rattle.layout.specs.Points.{longEnough};
 ghost use Rattle.map.specs.Rows.{rowCell};
-ghost use Rattle.map.specs.Standing.{Cells, Floodable};
-ghost use Rattle.map.specs.Answers.{answerWords, Queued, cellsOfRows};
+ghost use Rattle.map.specs.Standing.{Cells, openCells};
+ghost use Rattle.map.specs.Answers.{answerWords};
 ghost use Rattle.ask.specs.Answers.{refusal, cellRefusal, whereFrom, whereOf, idFrom, idOf, countFrom, countOf, groupFrom, groupOf, cornersFrom, cornersOf, listed, listedNumbers, listedCells, there, flooded, depthOf, idsOf, entitiesOf, occupiedOf, emptiedOf, nearbyOf, cubeOf, floodOf};
-ghost use Rattle.ask.specs.Parts.{having, standingIn, anyOf};
+ghost use Rattle.ask.specs.Parts.{having, standingIn, anyOf, NoneMarked, FloodAsked, Visits};
 ghost use Rattle.model.specs.Shortest.{shownPath};
 ghost use Rattle.path.specs.Walks.{shownRows};
 ghost use Rattle.ask.specs.Paths.{cellsRefusal, pathFrom, pathOf};
@@ -535,26 +535,44 @@ pub fn cube(state: &[u64], cell: CellId, radius: u8, answer: &mut [u64]) -> List
     give_cube(rows, n, component::stored(cell), radius, answer)
 }
 
-// How many of the first count rows the depth leaves.
-fn left_by(cells: &[u64], n: usize, queue: &[u64], count: usize, seed: usize, depth: Depth) -> usize
-    requires { ⌜ Queued (now cells) n (now queue) count × (seed < n) ⌝ }
-    ensures { λ r. ⌜ r ≡ length (cutAt (depthOf depth) (rowCell (now (cells .entry)) seed) (cellsOfRows (now (cells .entry)) (now (queue .entry)) count)) ⌝ }
-{
-    match depth {
-        Depth::Whole => count,
-        Depth::AtMost(d) => map::depth_cut(cells, n, queue, count, seed, d),
-    }
-}
-
 // The smaller of a number of cells and the budget.
-fn least(left: usize, budget: u64) -> usize
-    ensures { λ r. ⌜ r ≡ min budget left ⌝ }
+fn least(whole: usize, budget: u64) -> usize
+    ensures { λ r. ⌜ r ≡ min budget whole ⌝ }
 {
-    if left as u64 <= budget {
-        left
+    if whole as u64 <= budget {
+        whole
     } else {
         budget as usize
     }
+}
+
+// The rows that the depth leaves out are marked.
+fn leave_out(cells: &[u64], n: usize, seed: usize, depth: Depth, marks: &mut [u64])
+    requires { ⌜ Cells (now cells) n (cellsIn n (now cells)) × (seed < n) × (n ≤ length (now marks)) × NoneMarked n (now marks) ⌝ }
+    ensures { λ _. ⌜ openCells (now (cells .entry)) n (now (marks .exit)) ≡ floodCells (depthOf depth) (rowCell (now (cells .entry)) seed) (keys (cellsIn n (now (cells .entry)))) ⌝ }
+{
+    if let Depth::AtMost(d) = depth {
+        map::mark_outside(cells, n, seed, d, marks);
+    }
+}
+
+// The rows of the flood from a row come to stand in the queue; the answer is how many. A depth may leave out the first itself.
+fn queue_flood(
+    cells: &[u64],
+    n: usize,
+    seed: usize,
+    depth: Depth,
+    marks: &mut [u64],
+    queue: &mut [u64],
+) -> usize
+    requires { ⌜ FloodAsked (now cells) n seed (now marks) (now queue) ⌝ }
+    ensures { λ r. ⌜ Visits (now (cells .entry)) n (now (queue .exit)) r (wholeFlood touch26 (floodCells (depthOf depth) (rowCell (now (cells .entry)) seed) (keys (cellsIn n (now (cells .entry))))) (rowCell (now (cells .entry)) seed)) ⌝ }
+{
+    leave_out(cells, n, seed, depth, marks);
+    if marks[seed] != 0 {
+        return 0;
+    }
+    map::flood_rows(cells, n, seed, 1, 0, marks, queue)
 }
 
 // The flood from a row that is there, with rows to mark and to queue, none of them marked.
@@ -568,17 +586,16 @@ fn flood_over(
     queue: &mut [u64],
     answer: &mut [u64],
 ) -> Flooding
-    requires { ⌜ Floodable (now cells) n seed 1 0 (now marks) (now queue) × Cells (now cells) n (cellsIn n (now cells)) × (n ≤ 1024) × ((j : ℕ) → j < n → getD (now marks) j 0 ≡ 0) ⌝ }
+    requires { ⌜ FloodAsked (now cells) n seed (now marks) (now queue) ⌝ }
     ensures { λ r. ⌜ (r, now (answer .exit)) ≡ flooded true (floodBy touch26 (having (cellsIn n (now (cells .entry))) .occupancy) (rowCell (now (cells .entry)) seed) (depthOf depth) budget) (now (answer .entry)) ⌝ }
 {
-    let whole = map::flood_rows(cells, n, seed, 1, 0, marks, queue);
-    let left = left_by(cells, n, queue, whole, seed, depth);
-    let number = least(left, budget);
+    let whole = queue_flood(cells, n, seed, depth, marks, queue);
+    let number = least(whole, budget);
     if answer.len() < 4 * number {
         return Flooding::TooLong(4 * number);
     }
     map::flood_into(cells, n, queue, number, answer);
-    let was_all = left as u64 <= budget;
+    let was_all = whole as u64 <= budget;
     Flooding::Found(Visited { number, was_all })
 }
 

@@ -1,4 +1,4 @@
--- How cells stand in the words of an answer, and what the functions that write and cut answers are asked and promise.
+-- How cells stand in the words of an answer, and what the functions that write answers are asked and promise.
 use Prim.Native.Nat.{ℕ, suc, _+_, _*_, _%_, _≤_, _<_}
 use mathlib.Core.Path.{_≡_}
 use mathlib.Core.List.{List, [], _∷_}

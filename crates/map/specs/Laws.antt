@@ -14,6 +14,6 @@ pub mod Reads
 pub mod Unmarked
 pub mod Pushes
 pub mod Filling
-pub mod Meets
 pub mod Examples
 pub mod Cubes
+pub mod Outside

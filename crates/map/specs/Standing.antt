@@ -7,7 +7,7 @@ use lib.ListN.{length, take, drop, getD}
 use Rattle.model.specs.Lists.{has, each, keep, keys, count}
 use Rattle.model.specs.Cells.{Cell, same, below, touch26}
 use Rattle.model.specs.Masks.{touching, masked}
-use Rattle.model.specs.Flood.{visit}
+use Rattle.model.specs.Flood.{visit, withinDepth}
 use Rattle.model.specs.Laws.Sorted.{Asc}
 use Rattle.layout.specs.Rows.{cellsImage}
 use Rattle.map.specs.Rows.{rowCell, onward}
@@ -66,3 +66,10 @@ pub record Flooded (words : List ℕ) (n seed label step : ℕ) (marks queue : L
   pub beyond : drop n marks′ ≡ drop n marks
   pub marksKept : length marks′ ≡ length marks
   pub queueKept : length queue′ ≡ length queue
+
+-- What marking the rows outside a depth leaves: those of n rows whose cells are not within the depth of the seed are marked, and nothing
+-- else changed.
+pub record OutsideMarked (words : List ℕ) (n : ℕ) (seed : Cell) (depth : ℕ) (marks marks′ : List ℕ) : Type 0 where
+  pub rows : (j : ℕ) → j < n → getD marks′ j 0 ≡ cond (withinDepth depth seed (rowCell words j)) (getD marks j 0) 1
+  pub beyond : drop n marks′ ≡ drop n marks
+  pub marksKept : length marks′ ≡ length marks

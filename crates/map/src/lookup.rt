@@ -11,16 +11,16 @@ ghost use Prim.Native.Nat.{ℕ, _+_, _-_, _*_, _≤_, _<_};
 ghost use lib.ListN.{length, take};
 ghost use Rattle.component.specs.Around.{stepN};
 ghost use Rattle.component.specs.Stored.{biased};
-ghost use Rattle.model.specs.Lists.{whilst, keep, keys, gather};
+ghost use Rattle.model.specs.Lists.{keep, keys, gather};
 ghost use Rattle.model.specs.Cells.{Cell as CellOf, touch26, shift};
 ghost use Rattle.model.specs.Masks.{leadsTo};
 ghost use Rattle.model.specs.Places.{offsetAt};
-ghost use Rattle.model.specs.Flood.{atMost, within};
+ghost use Rattle.model.specs.Flood.{nearOn, withinDepth};
 ghost use Rattle.table.specs.Rows.{isTable4, table4};
 ghost use Rattle.table.specs.Moves.{over};
 ghost use Rattle.map.specs.Rows.{Lands, rowCell, rowNear, rowFor, onward};
 ghost use Rattle.map.specs.Fronts.{front, pushed, Followable};
-ghost use Rattle.map.specs.Standing.{Cells, Floodable, Flooded};
+ghost use Rattle.map.specs.Standing.{Cells, Floodable, Flooded, OutsideMarked};
 ghost use Rattle.map.specs.Beside.{apart, beside};
 ghost use Rattle.map.specs.Answers.{signedWord, answerWords, filled, NearbyAsked, Nearby, Queued, cellsOfRows};
 
@@ -238,7 +238,7 @@ pub fn flood_into(cells: &[u64], n: usize, rows: &[u64], count: usize, answer: &
 
 // A depth, 2^31 more.
 fn depth_word(depth: i32) -> u64
-    ensures { λ r. ⌜ (r ≡ biased depth) × (r < 4294967296) ⌝ }
+    ensures { λ r. ⌜ r ≡ biased depth ⌝ }
 {
     let p = CellCoord {
         x: depth,
@@ -249,56 +249,37 @@ fn depth_word(depth: i32) -> u64
     c.x
 }
 
-// Whether a coordinate minus the seed's is at most the depth.
-fn at_most(d: u64, seed: u64, n: u64) -> bool
-    requires { ⌜ d < 4294967296 ⌝ }
-    ensures { λ r. ⌜ r ≡ atMost d seed n ⌝ }
+// Whether two coordinates differ by at most the depth, either sign; no two differ by at most a negative one.
+fn is_near(d: u64, m: u64, n: u64) -> bool
+    ensures { λ r. ⌜ r ≡ nearOn d m n ⌝ }
 {
-    if n <= seed {
-        let down = seed - n;
-        if down >= 2_147_483_648 {
-            return true;
-        }
-        2_147_483_648 <= down + d
-    } else {
-        let up = n - seed;
-        if up >= 4_294_967_296 {
-            return false;
-        }
-        up + 2_147_483_648 <= d
+    if d < 2_147_483_648 {
+        return false;
     }
+    are_apart(d - 2_147_483_648, m, n)
 }
 
-// Whether no coordinate of c minus the seed's is above the depth.
+// Whether a cell is within the depth of the seed on every axis.
 fn is_within(d: u64, seed: Cell, c: Cell) -> bool
-    requires { ⌜ d < 4294967296 ⌝ }
-    ensures { λ r. ⌜ r ≡ within d seed c ⌝ }
+    ensures { λ r. ⌜ r ≡ withinDepth d seed c ⌝ }
 {
-    at_most(d, seed.x, c.x) & (at_most(d, seed.y, c.y) & at_most(d, seed.z, c.z))
+    is_near(d, seed.x, c.x) & (is_near(d, seed.y, c.y) & is_near(d, seed.z, c.z))
 }
 
-// How many of the first count rows come before the first above the depth.
-pub fn depth_cut(
-    cells: &[u64],
-    n: usize,
-    queue: &[u64],
-    count: usize,
-    seed: usize,
-    depth: i32,
-) -> usize
-    requires { ⌜ Queued (now cells) n (now queue) count × (seed < n) ⌝ }
-    ensures { λ r. ⌜ r ≡ length (whilst (within (biased depth) (rowCell (now (cells .entry)) seed)) (cellsOfRows (now (cells .entry)) (now (queue .entry)) count)) ⌝ }
+// The rows that are not within the depth of the row seed are marked, so that a flood takes them as walls.
+pub fn mark_outside(cells: &[u64], n: usize, seed: usize, depth: i32, marks: &mut [u64])
+    requires { ⌜ (5 * n ≤ length (now cells)) × (seed < n) × (n ≤ length (now marks)) ⌝ }
+    ensures { λ _. ⌜ OutsideMarked (now (cells .entry)) n (rowCell (now (cells .entry)) seed) (biased depth) (now (marks .entry)) (now (marks .exit)) ⌝ }
 {
     let d = depth_word(depth);
     let s = table::cell_at(cells, 5 * seed);
-    let mut k = 0;
-    while k < count {
-        let i = queue[k] as usize;
-        let c = table::cell_at(cells, 5 * i);
-        if !is_within(d, s, c) {
-            return k;
+    let mut i = 0;
+    while i < n {
+        if is_within(d, s, table::cell_at(cells, 5 * i)) {
+            i += 1;
+        } else {
+            marks[i] = 1;
+            i += 1;
         }
-        k += 1;
     }
-    k
 }

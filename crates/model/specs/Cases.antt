@@ -145,5 +145,5 @@ cases =
     -- L
     record {
       batches = moving ((0, at 0) ∷ (1, at 1) ∷ (2, minus 1) ∷ []) ∷ [];
-      seen = floods (at 0) none (at 0 ∷ minus 1 ∷ at 1 ∷ []) ∷ floods (at 0) (depth 0) (at 0 ∷ minus 1 ∷ []) ∷ [];
+      seen = floods (at 0) none (at 0 ∷ minus 1 ∷ at 1 ∷ []) ∷ floods (at 0) (depth 0) (at 0 ∷ []) ∷ floods (at 0) (depth 1) (at 0 ∷ minus 1 ∷ at 1 ∷ []) ∷ [];
     } ∷ []

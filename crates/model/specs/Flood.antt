@@ -5,7 +5,7 @@ use mathlib.Core.List.{List, [], _∷_, _++_}
 use mathlib.Core.Option.{Option, none, some}
 use lib.Dec.{leb}
 use lib.ListN.{length, take}
-use Rattle.model.specs.Lists.{keep, has, whilst}
+use Rattle.model.specs.Lists.{keep, has}
 use Rattle.model.specs.Cells.{Cell, same, bias}
 use Rattle.model.specs.Masks.{touching}
 use Rattle.model.specs.Occupancy.{Occupancy, occupied}
@@ -18,27 +18,31 @@ visit list (suc n) (c ∷ queue) marked =
     let new : List Cell = keep (λ d. not (has same marked d)) (list c) in
     c ∷ visit list n (queue ++ new) (marked ++ new)
 
--- The whole flood: each cell's list has the touching occupied cells; an unoccupied seed gives nothing.
-abbrev pub wholeFlood : (Cell → Cell → Bool) → Occupancy → Cell → List Cell
-wholeFlood touch o seed =
-    cond (has same (occupied o) seed) (visit (touching touch (occupied o)) (length (occupied o)) (seed ∷ []) (seed ∷ [])) []
+-- The whole flood over some cells: each cell's list has the touching ones of them; a seed that is not among them gives nothing.
+abbrev pub wholeFlood : (Cell → Cell → Bool) → List Cell → Cell → List Cell
+wholeFlood touch among seed =
+    cond (has same among seed) (visit (touching touch among) (length among) (seed ∷ []) (seed ∷ [])) []
 
 -- A depth is no depth, or a signed 32-bit number d, kept as d + 2^31.
 abbrev pub Depth : Type 0
 Depth = Option ℕ
 
--- Whether a coordinate minus the seed's is at most the depth, signed.
-abbrev pub atMost : ℕ → ℕ → ℕ → Bool
-atMost d seed n = leb (n + bias) (seed + d)
+-- Whether two coordinates differ by at most the depth, either sign.
+abbrev pub nearOn : ℕ → ℕ → ℕ → Bool
+nearOn d m n = leb (m + bias) (n + d) && leb (n + bias) (m + d)
 
--- Whether no coordinate of c minus the seed's is above the depth.
-abbrev pub within : ℕ → Cell → Cell → Bool
-within d seed c = atMost d (seed .x) (c .x) && (atMost d (seed .y) (c .y) && atMost d (seed .z) (c .z))
+-- Whether a cell is within the depth of the seed on every axis.
+abbrev pub withinDepth : ℕ → Cell → Cell → Bool
+withinDepth d seed c = nearOn d (seed .x) (c .x) && (nearOn d (seed .y) (c .y) && nearOn d (seed .z) (c .z))
 
--- The depth stops the flood for good at the first cell above it.
-abbrev pub cutAt : Depth → Cell → List Cell → List Cell
-cutAt none seed l = l
-cutAt (some d) seed l = whilst (within d seed) l
+-- The cells that a flood goes over: with no depth all, with a depth those within it; a negative depth leaves out even the seed.
+abbrev pub floodCells : Depth → Cell → List Cell → List Cell
+floodCells none seed cells = cells
+floodCells (some d) seed cells = keep (withinDepth d seed) cells
+
+-- The flood over the occupied cells within the depth, before the budget.
+abbrev pub floodWithin : (Cell → Cell → Bool) → Occupancy → Cell → Depth → List Cell
+floodWithin touch o seed depth = wholeFlood touch (floodCells depth seed (occupied o)) seed
 
 -- What a flood gives: cells, their number, and whether that was all of it.
 pub record Flood : Type 0 where
@@ -46,8 +50,8 @@ pub record Flood : Type 0 where
   pub number : ℕ
   pub wasAll : Bool
 
--- The first cells of the flood as the depth leaves it, up to the budget.
+-- The first cells of the flood within the depth, up to the budget.
 abbrev pub flood : (Cell → Cell → Bool) → Occupancy → Cell → Depth → ℕ → Flood
 flood touch o seed depth budget =
-    let l : List Cell = cutAt depth seed (wholeFlood touch o seed) in
+    let l : List Cell = floodWithin touch o seed depth in
     record { cells = take budget l; number = length (take budget l); wasAll = leb (length l) budget }

@@ -17,8 +17,6 @@ pub mod Occupied
 pub mod Net
 pub mod Visits
 pub mod Floods
-pub mod Floods2
-pub mod Reaching
 pub mod Keys
 pub mod Takes
 pub mod Fine
@@ -40,6 +38,7 @@ pub mod View
 pub mod Lock
 pub mod Apart
 pub mod OnGrid
+pub mod Reaching
 pub mod FloodOn
 pub mod Leading
 pub mod Steps

@@ -1,6 +1,7 @@
 pub mod MasksExact
 pub mod NetExact
 pub mod FloodExact
+pub mod DepthExact
 pub mod StaysConsistent
 pub mod Grouping
 pub mod CornersExact

@@ -1,7 +1,6 @@
 -- No row is marked at first.
 use borrow.Author.Needs.{needs}
-use Rattle.layout.specs.Rows.{cellsIn}
-use Rattle.ask.specs.Laws.Floods.{none-marked, floodable}
+use Rattle.ask.specs.Laws.Floods.{flood-asked}
 use Rattle.ask.proofs.flood_from.Statement.{statement}
 use Rattle.ask.proofs.flood_from.Tie as tie
 
@@ -13,12 +12,8 @@ slice-aggregate-flood-over-2 c = search needs
 
 flood-over-requires : tie.Need-flood-over-requires
 flood-over-requires c κs =
-    let s = c .before .before .before .before .before in (
-      floodable (s .args .cells .now) (s .args .n) (cellsIn (s .args .n) (s .args .cells .now)) (s .pre .0) (s .args .seed) (s .pre .1) 1024 (s .pre .2),
-      s .pre .0,
-      s .pre .2,
-      none-marked (s .args .n) 1024 (s .pre .2),
-    )
+    let s = c .before .before .before .before .before in
+    flood-asked (s .args .cells .now) (s .args .n) (s .args .seed) 1024 (s .pre .0) (s .pre .1) (s .pre .2) (s .pre .2)
 
 same-length : tie.Need-same-length
 same-length c = search needs

@@ -5,14 +5,14 @@ use native.Mathlib.Omega.{arith}
 use mathlib.Core.Path.{_≡_, refl, sym, _∙_, ap}
 use mathlib.Core.List.{List, [], _∷_, _++_, append-assoc, append-nil}
 use lib.ListN.{length, take, drop, getD, length-append, length-drop}
-use lib.Seq.{take-suc, take-append-seam, drop-append-add, drop-drop, length-take-le, take-all, getD-take}
-use Rattle.model.specs.Lists.{gather}
+use lib.Seq.{take-suc, take-append-seam, drop-append-add, drop-drop, length-take-le, take-all, take-take, getD-take}
+use Rattle.model.specs.Lists.{each, gather}
 use Rattle.model.specs.Cells.{Cell}
 use Rattle.model.specs.Laws.Members.{gather-append, each-length}
 use Rattle.table.specs.Moves.{over}
 use Rattle.map.specs.Rows.{rowCell}
 use Rattle.map.specs.Answers.{answerWords, filled, cellsOfRows}
-use Rattle.map.specs.Laws.Lines.{each-at}
+use Rattle.map.specs.Laws.Lines.{each-at, each-take}
 
 -- A cell has four words.
 pub words-long : (l : List Cell) → length (gather answerWords l) ≡ 4 * length l
@@ -124,3 +124,7 @@ module _ (words rows : List ℕ) (count : ℕ) (h : count ≤ length rows) where
   rows-at k d g =
       each-at (rowCell words) (take count rows) k 0 d (omega (arith, length-take-le count rows h))
       ∙ ap (rowCell words) (getD-take count rows k 0 g)
+
+  -- Those of the first of the rows are the first of them.
+  pub rows-front : (m : ℕ) → m ≤ count → cellsOfRows words rows m ≡ take m (cellsOfRows words rows count)
+  rows-front m g = ap (each (rowCell words)) (sym (take-take m count rows g)) ∙ each-take (rowCell words) m (take count rows)

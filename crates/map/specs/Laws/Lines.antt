@@ -1,14 +1,14 @@
--- Facts on lists: members by their number, and how many pass before the first that fails.
+-- Facts on lists: members by their number.
 use Prim.Native.Nat.{ℕ, zero, suc, _<_}
 use native.Mathlib.Nat.{le-of-suc-le-suc, not-suc-le-zero}
 use native.Mathlib.Omega.{arith}
 use mathlib.Core.Path.{_≡_, refl, sym, _∙_, ap, subst}
 use mathlib.Core.Logic.{⊎-elim}
-use mathlib.Core.Bool.{Bool, true, false, cond}
+use mathlib.Core.Bool.{Bool}
 use mathlib.Core.List.{List, [], _∷_, List·Memᴰ as Mem, List·Memᴰ·cases-cons as mem-cons, List·Memᴰ·not-nil as mem-nil}
 use lib.Dec.{T}
 use lib.ListN.{length, take, drop, getD}
-use Rattle.model.specs.Lists.{each, whilst}
+use Rattle.model.specs.Lists.{each}
 use Rattle.model.specs.Laws.Orders.{Ordered, order-cases, numbers}
 use Rattle.model.specs.Laws.Sorted.{Asc, asc-head, asc-tail}
 pub use Rattle.table.specs.Laws.Places.{getD-mem}
@@ -20,22 +20,6 @@ module _ {A : Type 0} where
   mem-getD {a} (x ∷ l) d m =
       ⊎-elim (λ e. (0, omega arith, sym e))
       (λ k. let r : (i : ℕ) × (i < length l) × (getD l i d ≡ a) = mem-getD l d k in (suc (r .0), let h = r .1 in omega arith, r .2)) (mem-cons m)
-
-  -- If k members pass and the next fails, k members are up to the first that fails.
-  pub whilst-stop : (p : A → Bool) (l : List A) (k : ℕ) (d : A) → k < length l → ((j : ℕ) → j < k → p (getD l j d) ≡ true) → p (getD l k d) ≡ false → k ≡ length (whilst p l)
-  whilst-stop p [] k d h f e = absurd (not-suc-le-zero h)
-  whilst-stop p (x ∷ l) zero d h f e = sym (ap (λ b. length (cond b (x ∷ whilst p l) [])) e)
-  whilst-stop p (x ∷ l) (suc k) d h f e =
-      ap suc (whilst-stop p l k d (le-of-suc-le-suc h) (λ j g. f (suc j) (omega arith)) e)
-      ∙ sym (ap (λ b. length (cond b (x ∷ whilst p l) [])) (f 0 (omega arith)))
-
-  -- If all members pass, all are up to the first that fails.
-  pub whilst-full : (p : A → Bool) (l : List A) (k : ℕ) (d : A) → k ≡ length l → ((j : ℕ) → j < k → p (getD l j d) ≡ true) → k ≡ length (whilst p l)
-  whilst-full p [] k d h f = h
-  whilst-full p (x ∷ l) zero d h f = absurd (omega arith)
-  whilst-full p (x ∷ l) (suc k) d h f =
-      ap suc (whilst-full p l k d (omega arith) (λ j g. f (suc j) (omega arith)))
-      ∙ sym (ap (λ b. length (cond b (x ∷ whilst p l) [])) (f 0 (omega arith)))
 
 module _ {A B : Type 0} (f : A → B) where
   -- What stands at a number after a rule.

@@ -1,6 +1,6 @@
 -- Smallest moves at which a slip would show, as one list.
 use mathlib.Core.List.{List, [], _∷_}
-use mathlib.Core.Option.{none}
+use mathlib.Core.Option.{none, some}
 use Rattle.model.specs.Occupancy.{Batch}
 use Rattle.model.specs.Cases.{Case, ids, corners, nets, floods, at, minus, cell, corner, moving, removing, fill, depth}
 
@@ -30,5 +30,10 @@ slips =
       batches = moving ((0, at 0) ∷ (1, at 1) ∷ (2, cell 1 0 1 0) ∷ (3, cell 1 2 1 0) ∷ []) ∷ [];
       seen = floods (at 0) none (at 0 ∷ at 1 ∷ cell 1 0 1 0 ∷ cell 1 2 1 0 ∷ []) ∷ [];
     } ∷
-    -- A depth on both sides would leave out (-1,0,0).
-    record { batches = fill 0 ∷ moving ((1, minus 1) ∷ []) ∷ []; seen = floods (at 0) (depth 0) (at 0 ∷ minus 1 ∷ []) ∷ [] } ∷ []
+    -- A depth to one side only would let (-1,0,0) pass; a negative depth would give the seed.
+    record { batches = fill 0 ∷ moving ((1, minus 1) ∷ []) ∷ []; seen = floods (at 0) (depth 0) (at 0 ∷ []) ∷ floods (at 0) (some 2147483647) [] ∷ [] } ∷
+    -- A cell outside the depth, (1,3,1): one that ends the flood for good would leave out (2,2,2), one that is followed lead to (1,2,0).
+    record {
+      batches = moving ((0, cell 1 1 0 2) ∷ (1, cell 1 0 1 2) ∷ (2, cell 1 1 2 2) ∷ (3, cell 1 1 3 1) ∷ (4, cell 1 2 2 2) ∷ (5, cell 1 1 2 0) ∷ []) ∷ [];
+      seen = floods (cell 1 1 0 2) (depth 2) (cell 1 1 0 2 ∷ cell 1 0 1 2 ∷ cell 1 1 2 2 ∷ cell 1 2 2 2 ∷ []) ∷ [];
+    } ∷ []

@@ -111,20 +111,6 @@ module _ {A : Type 0} (p : A → Bool) where
       ⊎-elim (λ t. ⊎-elim (λ h. (head h, subst (λ y. T (p y)) (sym h) t)) (λ k. (tail (whilst-out xs k .0), whilst-out xs k .1)) (mem-cons (subst (λ l. Mem a l) (cond-yes (p x) _ _ t) m)))
       (λ t. absurd (mem-nil (subst (λ l. Mem a l) (cond-no (p x) (x ∷ whilst p xs) [] t) m))) (decided (p x))
 
-  -- If all members pass, the first that fails is never met.
-  pub whilst-all : (l : List A) → ((a : A) → Mem a l → T (p a)) → whilst p l ≡ l
-  whilst-all [] f = refl
-  whilst-all (x ∷ xs) f = cond-yes (p x) _ _ (f x (head refl)) ∙ ap (λ l. x ∷ l) (whilst-all xs (λ a m. f a (tail m)))
-
-  -- The members up to the first that fails are no more than all.
-  pub whilst-shorter : (l : List A) → length (whilst p l) ≤ length l
-  whilst-shorter [] = omega arith
-  whilst-shorter (x ∷ xs) = go (p x) (whilst-shorter xs)
-    where
-      go : (b : Bool) → length (whilst p xs) ≤ length xs → length (cond b (x ∷ whilst p xs) []) ≤ suc (length xs)
-      go true h = omega arith
-      go false h = omega arith
-
 -- What two tests leave of a list.
 module _ {A : Type 0} (p q : A → Bool) where
   -- Two tests that agree on all members leave the same.

@@ -1,4 +1,4 @@
--- The net lists as a difference since the batch began, their lengths, and the cells that occupancy names.
+-- The net lists as a difference since the batch began, their lengths, and the cells that occupancy names; the entities tell the rest.
 use Prim.Native.Nat.{ℕ, _+_, _≤_}
 use native.Mathlib.Omega.{arith}
 use mathlib.Core.Path.{_≡_, refl, sym, _∙_, ap, subst}
@@ -8,8 +8,9 @@ use mathlib.Core.List.{List, [], _∷_, _++_, List·Memᴰ as Mem, List·Memᴰ�
 use mathlib.Core.Option.{Option, none, some}
 use lib.Dec.{T, eqb, ltb}
 use lib.ListN.{length}
-use Rattle.model.specs.Lists.{has, without, each, add, run, values, put, get, dropKey}
+use Rattle.model.specs.Lists.{has, without, each, add, ascending, run, values, put, get, dropKey}
 use Rattle.model.specs.Cells.{Cell, same, below}
+use Rattle.model.specs.Masks.{masked}
 use Rattle.model.specs.Occupancy.{Occupancy, Event, remove, moveTo, Batch, events, occupied, standsIn, withEntities, startBatch, Passage, leaves, enters, leavesFrom, isAt, passages, openCell, closeCell, enter, leave, pass, play, trace, playBatch}
 use Rattle.model.specs.Laws.Tests.{T-true, T-false}
 use Rattle.model.specs.Laws.Orders.{numbers, cells}
@@ -214,3 +215,12 @@ module _ (touch : Cell → Cell → Bool) (R : Cell → Bool) where
   trace-in o (ev ∷ es) f p m =
       ⊎-elim (λ k. passages-in R (o .entities) ev (f ev (head refl)) p k) (λ k. trace-in (play touch o ev) es (λ v j. f v (tail j)) p k)
       (append-cases (passages (o .entities) ev) m)
+
+-- Two sound occupancies with the same entities and net lists since the same cells are equal.
+pub by-entities : (touch : Cell → Cell → Bool) (was : List Cell) (o p : Occupancy) → Sound touch o → Sound touch p → Net was o → Net was p → o .entities ≡ p .entities → o ≡ p
+by-entities touch was o p ok ok′ net net′ e =
+    let c : occupied o ≡ occupied p = ok .cells ∙ ap (λ (t : List (ℕ × Cell)). ascending below (values t)) e ∙ sym (ok′ .cells) in
+    let m : o .masks ≡ p .masks = ok .exact ∙ ap (masked touch) c ∙ sym (ok′ .exact) in
+    let f : o .newlyOccupied ≡ p .newlyOccupied = net .opened ∙ ap (λ l. minus same l was) c ∙ sym (net′ .opened) in
+    let g : o .newlyEmptied ≡ p .newlyEmptied = net .emptied ∙ ap (minus same was) c ∙ sym (net′ .emptied) in
+    λ i. record { entities = e i; masks = m i; newlyOccupied = f i; newlyEmptied = g i }

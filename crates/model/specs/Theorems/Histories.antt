@@ -1,6 +1,7 @@
 -- Net lists, masks, floods and corners after every history of accepted batches.
 use Prim.Native.Nat.{ℕ}
 use mathlib.Core.Path.{_≡_, sym, subst}
+use mathlib.Core.Logic.{_↔_}
 use mathlib.Core.Bool.{Bool}
 use mathlib.Core.List.{List·Memᴰ as Mem}
 use mathlib.Core.Option.{some}
@@ -8,7 +9,8 @@ use lib.Dec.{T}
 use Rattle.model.specs.Cells.{Cell, touch26}
 use Rattle.model.specs.Occupancy.{Batch, occupied}
 use Rattle.model.specs.Masks.{masked}
-use Rattle.model.specs.Flood.{wholeFlood}
+use Rattle.model.specs.Flood.{Depth, withinDepth, floodCells, floodWithin}
+use Rattle.model.specs.Paths.{Path}
 use Rattle.model.specs.Groups.{Group, members}
 use Rattle.model.specs.Update.{State, accepted, update}
 use Rattle.model.specs.Questions.{idOf, groupBy}
@@ -19,6 +21,7 @@ use Rattle.model.specs.Laws.Accepted.{update-accepted}
 use Rattle.model.specs.Laws.Consistency.{Ok, ok-out}
 use Rattle.model.specs.Theorems.NetExact.{Since, net-exact}
 use Rattle.model.specs.Theorems.FloodExact.{Whole, flood-exact}
+use Rattle.model.specs.Theorems.DepthExact.{depth-exact}
 use Rattle.model.specs.Theorems.CornersExact.{Shows, corners-exact}
 use Rattle.model.specs.Theorems.StaysConsistent.{consistent-reached}
 
@@ -40,9 +43,13 @@ module _ (touch : Cell → Cell → Bool) (laws : Touching touch) {s : State} (r
   pub masks-reached : s .occupancy .masks ≡ masked touch (occupied (s .occupancy))
   masks-reached = reached-ok .sound .exact
 
-  -- The whole flood of an occupied seed visits exactly the cells joined to it, each once.
-  pub flood-reached : (seed : Cell) → Mem seed (occupied (s .occupancy)) → Whole touch (occupied (s .occupancy)) seed (wholeFlood touch (s .occupancy) seed)
+  -- A flood visits exactly the cells joined to its seed through the cells that it goes over, each once.
+  pub flood-reached : (seed : Cell) (depth : Depth) → Mem seed (floodCells depth seed (occupied (s .occupancy))) → Whole touch (floodCells depth seed (occupied (s .occupancy))) seed (floodWithin touch (s .occupancy) seed depth)
   flood-reached = flood-exact touch (s .occupancy) (reached-ok .sound)
+
+  -- With a depth those are the cells reached by a path of touching occupied cells that all lie within it.
+  pub depth-reached : (seed : Cell) (d : ℕ) (a : Cell) → Mem a (floodWithin touch (s .occupancy) seed (some d)) ↔ Path touch (λ c. Mem c (occupied (s .occupancy)) × T (withinDepth d seed c)) seed a
+  depth-reached seed d = depth-exact touch (s .occupancy) seed d (reached-ok .sound)
 
   -- The group of an id that a cell has shows exactly the cells with that id.
   pub corners-reached : (a : Cell) (g : ℕ) → idOf s a ≡ some g → (k : Group) × (groupBy s g ≡ some k) × Shows (members (s .groups .ids) g) k
@@ -56,8 +63,11 @@ module _ {s : State} (r : Reached touch26 s) where
   pub masks-26 : s .occupancy .masks ≡ masked touch26 (occupied (s .occupancy))
   masks-26 = masks-reached touch26 touching-26 r
 
-  pub flood-26 : (seed : Cell) → Mem seed (occupied (s .occupancy)) → Whole touch26 (occupied (s .occupancy)) seed (wholeFlood touch26 (s .occupancy) seed)
+  pub flood-26 : (seed : Cell) (depth : Depth) → Mem seed (floodCells depth seed (occupied (s .occupancy))) → Whole touch26 (floodCells depth seed (occupied (s .occupancy))) seed (floodWithin touch26 (s .occupancy) seed depth)
   flood-26 = flood-reached touch26 touching-26 r
+
+  pub depth-26 : (seed : Cell) (d : ℕ) (a : Cell) → Mem a (floodWithin touch26 (s .occupancy) seed (some d)) ↔ Path touch26 (λ c. Mem c (occupied (s .occupancy)) × T (withinDepth d seed c)) seed a
+  depth-26 = depth-reached touch26 touching-26 r
 
   pub corners-26 : (a : Cell) (g : ℕ) → idOf s a ≡ some g → (k : Group) × (groupBy s g ≡ some k) × Shows (members (s .groups .ids) g) k
   corners-26 = corners-reached touch26 touching-26 r

@@ -3,18 +3,18 @@ use borrow.Author.Needs.{needs}
 use Rattle.map.proofs.lookup.is_within.Statement.{statement}
 use Rattle.map.proofs.lookup.is_within.Tie as tie
 
-at-most-requires : tie.Need-at-most-requires
-at-most-requires c κs = search needs
+is-near-requires : tie.Need-is-near-requires
+is-near-requires c κs = search needs
 
-at-most-requires-2 : tie.Need-at-most-requires-2
-at-most-requires-2 c κs = search needs
+is-near-requires-2 : tie.Need-is-near-requires-2
+is-near-requires-2 c κs = search needs
 
-at-most-requires-3 : tie.Need-at-most-requires-3
-at-most-requires-3 c κs = search needs
+is-near-requires-3 : tie.Need-is-near-requires-3
+is-near-requires-3 c κs = search needs
 
 returns : tie.Need-returns
-returns c = simp (c .before .before .at-most .ensures, c .before .at-most2 .ensures, c .at-most3 .ensures)
+returns c = simp (c .before .before .is-near .ensures, c .before .is-near2 .ensures, c .is-near3 .ensures)
 
 pub is-within-spec : {M : Type 1} → statement M
 is-within-spec =
-    tie.close (tie.spec at-most-requires at-most-requires-2 at-most-requires-3 returns)
+    tie.close (tie.spec is-near-requires is-near-requires-2 is-near-requires-3 returns)
