@@ -3,11 +3,12 @@
 //! versus run SEED BATCHES          compares at least as many accepted batches
 //! versus kind NAME SEED BATCHES    the same with scripts of one kind
 //! versus record SEED               writes the Rust's answers for some scripts, as plain numbers
-//! versus speed                     the time of a batch on both sides, and of the port's calls by themselves
+//! versus speed                     the time of a batch and of a cube on both sides, and of the port's calls by themselves
 
 mod alone;
 mod compare;
 mod counts;
+mod cubes;
 mod offer;
 mod paths;
 mod plain;
@@ -40,6 +41,7 @@ fn main() -> ExitCode {
         ["speed"] => {
             speed::speed();
             alone::alone();
+            cubes::cubes();
             ExitCode::SUCCESS
         }
         ["record", seed] => {

@@ -202,6 +202,11 @@ impl RustYard {
         named.iter().map(cell).collect()
     }
 
+    /// How many cells the Rust's own cube has.
+    pub fn within(&self, centre: Cell, radius: u8) -> usize {
+        self.lookup.within_cube(&id(centre), radius).count()
+    }
+
     pub fn flood(&self, seed: Cell, depth: Option<i32>) -> Vec<Cell> {
         self.lookup.flood(&id(seed), depth).map(|n| cell(&n.0)).collect()
     }

@@ -1,4 +1,4 @@
--- Which cells a cube takes.
+-- Which cells a cube takes, and where their planes begin.
 use Prim.Native.Nat.{ℕ, _+_}
 use mathlib.Core.Bool.{Bool, _&&_, not}
 use lib.Dec.{eqb, leb}
@@ -12,3 +12,7 @@ apart r m n = leb m (n + r) && leb n (m + r)
 abbrev pub beside : ℕ → Cell → Cell → Bool
 beside r c d =
     eqb (d .grid) (c .grid) && (apart r (c .z) (d .z) && (apart r (c .y) (d .y) && (apart r (c .x) (d .x) && not (same c d))))
+
+-- No cell of the plane z of a grid comes before this one, and every cell before that plane does.
+abbrev pub planeStart : ℕ → ℕ → Cell
+planeStart grid z = record { grid = grid; z = z; y = 0; x = 0 }

@@ -17,3 +17,4 @@ pub mod Filling
 pub mod Examples
 pub mod Cubes
 pub mod Outside
+pub mod Planes

@@ -2,6 +2,7 @@
 use component::Cell;
 use component::CellCoord;
 use component::CellId;
+use table::find4;
 use table::find4_near;
 use table::index;
 ghost use mathlib.Core.Path.{_≡_};
@@ -21,7 +22,7 @@ ghost use Rattle.table.specs.Moves.{over};
 ghost use Rattle.map.specs.Rows.{Lands, rowCell, rowNear, rowFor, onward};
 ghost use Rattle.map.specs.Fronts.{front, pushed, Followable};
 ghost use Rattle.map.specs.Standing.{Cells, Floodable, Flooded, OutsideMarked};
-ghost use Rattle.map.specs.Beside.{apart, beside};
+ghost use Rattle.map.specs.Beside.{apart, beside, planeStart};
 ghost use Rattle.map.specs.Answers.{signedWord, answerWords, filled, NearbyAsked, Nearby, Queued, cellsOfRows};
 
 // The row of an occupied cell, looked for from a row that may be any.
@@ -202,14 +203,41 @@ fn is_beside(r: u64, c: Cell, d: Cell) -> bool
     g & (z & (y & (x & !same)))
 }
 
-// The occupied cells beside c come to stand in words behind the first from cells; the answer is how many stand there then.
+// The first row that is not before the plane z of a grid.
+fn plane_row(cells: &[u64], n: usize, grid: u64, z: u64) -> usize
+    requires { ⌜ isTable4 5 n (now cells) ≡ true ⌝ }
+    ensures { λ r. ⌜ r ≡ rowFor (now (cells .entry)) n (planeStart grid z) ⌝ }
+{
+    index(find4(
+        cells,
+        5,
+        n,
+        Cell {
+            grid,
+            z,
+            y: 0,
+            x: 0,
+        },
+    ))
+}
+
+// n less r, and 0 where that is less.
+fn down(n: u64, r: u64) -> u64
+    ensures { λ m. ⌜ m ≡ n - r ⌝ }
+{
+    if n < r { 0 } else { n - r }
+}
+
+// The occupied cells beside c come to stand in words behind the first from cells; the answer is how many stand there then. Rows ascend
+// by grid and plane, so that only those of the planes from z - r to z + r are looked at.
 pub fn cube_into(cells: &[u64], n: usize, c: Cell, r: u64, words: &mut [u64], from: usize) -> usize
-    requires { ⌜ (5 * n ≤ length (now cells)) × (4 * (from + n) ≤ length (now words)) ⌝ }
+    requires { ⌜ (isTable4 5 n (now cells) ≡ true) × (c .z + r < 18446744073709551615) × (4 * (from + n) ≤ length (now words)) ⌝ }
     ensures { λ k. ⌜ (k ≤ from + n) × (take (4 * k) (now (words .exit)) ≡ take (4 * from) (now (words .entry)) ++ gather answerWords (keep (beside r c) (keys (table4 5 n (now (cells .entry)))))) ⌝ }
 {
+    let end = plane_row(cells, n, c.grid, c.z + r + 1);
     let mut k = from;
-    let mut i = 0;
-    while i < n {
+    let mut i = plane_row(cells, n, c.grid, down(c.z, r));
+    while i < end {
         let d = table::cell_at(cells, 5 * i);
         if is_beside(r, c, d) {
             write_cell(words, 4 * k, d);

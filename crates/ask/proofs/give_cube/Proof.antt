@@ -1,5 +1,5 @@
 -- The centre, then the cells beside it, are its neighbours in order.
-use Prim.Native.Nat.{ℕ, _*_, _≤_}
+use Prim.Native.Nat.{ℕ, _+_, _*_, _≤_, _<_}
 use native.Mathlib.Omega.{arith}
 use mathlib.Core.List.{List, _++_}
 use mathlib.Core.Bool.{true, false}
@@ -7,11 +7,12 @@ use mathlib.Core.Path.{_≡_, refl, sym, ap, _∙_}
 use lib.ListN.{length, replicate, length-replicate}
 use borrow.Author.Needs.{needs}
 use Rattle.component.specs.Laws.Adjacent.{range-above}
+use Rattle.component.specs.Laws.Range.{in-range-axes}
 use Rattle.component.specs.Around.{Above}
 use Rattle.model.specs.Questions.{cube}
 use Rattle.model.specs.Cells.{Cell}
 use Rattle.model.specs.Lists.{keys, keep, gather}
-use Rattle.table.specs.Rows.{table4}
+use Rattle.table.specs.Rows.{table4, isTable4}
 use Rattle.layout.specs.Rows.{cellsIn}
 use Rattle.map.specs.Laws.Reads.{cells-table, cells-keys}
 use Rattle.map.specs.Answers.{answerWords}
@@ -27,6 +28,13 @@ use Rattle.ask.proofs.give_cube.Tie as tie
 above : (s : tie.Start) → Above (s .args .radius) (s .args .c)
 above s = range-above (s .args .radius) (s .args .c) (omega (arith, s .fits .radius)) (s .pre .1)
 
+-- The rows are a table, and the planes about the cell are words.
+planes : (s : tie.Start) → (isTable4 5 (s .args .n) (s .args .cells .now) ≡ true) × (s .args .c .z + s .args .radius < 18446744073709551615)
+planes s = (
+  cells-table (s .args .cells .now) (s .args .n) (cellsIn (s .args .n) (s .args .cells .now)) (s .pre .0),
+  omega (arith, in-range-axes (s .args .c) (s .pre .1) .z .1, s .fits .radius),
+)
+
 -- The words keep their length.
 kept : (b : tie.After-cube-into) → length (b .cube-into .last .1 .1 .1 .1 .0) ≡ 4100
 kept b = b .cube-into .kept .1 .1 .1 .1 .0 ∙ b .before .before .before .write-cell .kept .0
@@ -39,7 +47,7 @@ long2 : (b : tie.After-cube-into2) → 4 * b .cube-into2 .result ≤ length (b .
 long2 b = let s = b .before .before .before .before .before .before .before in omega (arith, b .cube-into2 .kept .1 .1 .1 .1 .0, b .cube-into2 .ensures .0, s .pre .2)
 
 find4-requires : tie.Need-find4-requires
-find4-requires c κs = let s = c .before .before in cells-table (s .args .cells .now) (s .args .n) (cellsIn (s .args .n) (s .args .cells .now)) (s .pre .0)
+find4-requires c κs = planes (c .before .before) .0
 
 enum-told : tie.Need-enum-told
 enum-told c = search needs
@@ -54,7 +62,7 @@ slice-aggregate-cube-into : tie.Need-slice-aggregate-cube-into
 slice-aggregate-cube-into c = search needs
 
 cube-into-requires : tie.Need-cube-into-requires
-cube-into-requires c κs = let s = c .before .before .before .before .before .before .before .before .before in (s .pre .0 .fits, omega (arith, s .pre .2, c .before .before .write-cell .kept .0))
+cube-into-requires c κs = let s = c .before .before .before .before .before .before .before .before .before in (planes s .0, planes s .1, omega (arith, s .pre .2, c .before .before .write-cell .kept .0))
 
 slice-aggregate-give : tie.Need-slice-aggregate-give
 slice-aggregate-give c = sym (kept (c .before .before))
@@ -72,7 +80,7 @@ slice-aggregate-cube-into-2 : tie.Need-slice-aggregate-cube-into-2
 slice-aggregate-cube-into-2 c = search needs
 
 cube-into-requires-2 : tie.Need-cube-into-requires-2
-cube-into-requires-2 c κs = let s = c .before .before .before .before .before .before in (s .pre .0 .fits, omega (arith, s .pre .2, length-replicate {A = ℕ} 4100 0))
+cube-into-requires-2 c κs = let s = c .before .before .before .before .before .before in (planes s .0, planes s .1, omega (arith, s .pre .2, length-replicate {A = ℕ} 4100 0))
 
 slice-aggregate-give-2 : tie.Need-slice-aggregate-give-2
 slice-aggregate-give-2 c = sym (c .before .before .cube-into2 .kept .1 .1 .1 .1 .0)

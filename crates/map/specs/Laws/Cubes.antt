@@ -6,7 +6,6 @@ use mathlib.Core.Bool.{Bool, true, false, _&&_, not}
 use mathlib.Core.List.{List, [], _∷_, _++_, append-assoc}
 use lib.Dec.{T, eqb, eqb→eq, leb, leb→le, le→leb}
 use lib.ListN.{length, take, getD}
-use lib.Seq.{take-all}
 use borrow.Author.Tests.{le-leb}
 use Rattle.component.specs.Around.{around, Above, Within}
 use Rattle.component.specs.Laws.Neighbours.{around-ordered, around-length, around-sound, around-complete}
@@ -66,7 +65,7 @@ module _ (r : ℕ) (c d : Cell) where
       (and-both (apart r (c .y) (d .y)) from-x (apart-in r (c .y) (d .y) (w .y .0) (w .y .1))
       (and-both (apart r (c .x) (d .x)) (not (same c d)) (apart-in r (c .x) (d .x) (w .x .0) (w .x .1)) (differ cells (λ e. ne (sym e))))))
 
-  beside-out : T (beside r c d) → Within r c d × (d ≡ c → ⊥)
+  pub beside-out : T (beside r c d) → Within r c d × (d ≡ c → ⊥)
   beside-out t =
       let z : T from-z = and-snd (eqb (d .grid) (c .grid)) from-z t in
       let y : T from-y = and-snd (apart r (c .z) (d .z)) from-y z in
@@ -125,9 +124,3 @@ module _ (table : List ℕ) (n r : ℕ) (c : Cell) where
     pub beside-past : b ≡ false → take (4 * k) words ≡ front ++ gather answerWords (keep (beside r c) (take (i + 1) rowCells))
     beside-past y =
         e ∙ ap (λ (l : List Cell). front ++ gather answerWords l) (sym (keep-past rowCells i d (omega (arith, long)) (beside r c) (ap (beside r c) at-row ∙ sym u ∙ y)))
-
-  -- All rows.
-  pub beside-end : (front words : List ℕ) (k i : ℕ) → take (4 * k) words ≡ front ++ gather answerWords (keep (beside r c) (take i rowCells)) → i ≡ n
-      → take (4 * k) words ≡ front ++ gather answerWords (keep (beside r c) rowCells)
-  beside-end front words k i e g =
-      e ∙ ap (λ (l : List Cell). front ++ gather answerWords (keep (beside r c) l)) (take-all i rowCells (omega (arith, keys-length cell 5 n table)))
