@@ -4,7 +4,8 @@
  * A slice is a pointer and its number of 64-bit words; slices of one call must not overlap. Each function gives back the scope's
  * number: 0 done, 1 a slice is too short, 2 the state is not consistent, 3 more than 1,024 events, 4 a coordinate is out of range,
  * 5 fewer than 2,048 ids are left, 6 more than 4,096 entities, 7 more than 1,024 occupied cells, 8 the answer is longer than its
- * slice, 12 no path joins the cells. After any number but 0 and 8 every slice is as found; after 8 only `told` is written.
+ * slice, 10 a report's values are not ones that may be, 11 a frame is not one, 12 no path joins the cells. After any number but 0, 8, 10
+ * and 11 every slice is as found; after these three only `told` is written.
  *
  * `told` has the rest of an answer; the number is 1 if it is shorter than the call's CAPMARROW_TOLD. told[0] is 1 if the entity, cell or id
  * is found and else 0. Coordinates in words are in two's complement. */
@@ -78,6 +79,22 @@ uint64_t capmarrow_flood(const uint64_t *state, size_t state_len, uint64_t grid,
 /* Gives the path from a cell to another, both included, four words a cell: touching occupied cells, the fewest, and among as few those that
  * come first in cell order; refuses by 1, 2, 4, 12 and 8, in that order. */
 uint64_t capmarrow_path(const uint64_t *state, size_t state_len, uint64_t grid, int32_t x, int32_t y, int32_t z, uint64_t to_grid, int32_t to_x, int32_t to_y, int32_t to_z, uint64_t *answer, size_t answer_len, uint64_t *told, size_t told_len);
+
+/* A report in metres. Its kinds; any other number is nothing. */
+#define CAPMARROW_REPORT_NOTHING 0
+#define CAPMARROW_REPORT_FIX 1      /* x, y, z */
+#define CAPMARROW_REPORT_RECKONED 2 /* x, y, z, error */
+
+/* Event or not (1 or 0); the words of its move, as a batch has them (entity, grid, x, y, z); the offsets on x, y, z, by the bits of a
+ * double; whether an error was reported, and its bits. With no event all are 0. After 10 and 11: 0, the thing that is meant, its axis
+ * (x 0, y 1, z 2); the words behind are as found. */
+#define CAPMARROW_TOLD_EVENT 11
+
+/* Tells what a report makes in a yard's frame, of an entity and a grid that the caller names. Refuses by 1 (`told` is too short), by 11
+ * (thing 0: the edge is not 1, 2, 4, 8, 16, 32 or 64 m; thing 1: the origin is not whole metres within 1,048,576 of zero) and by 10
+ * (thing 0: a coordinate is not finite, or beyond 1,048,576 m of the origin; thing 1: the error is not finite, or below zero), tried in
+ * that order. */
+uint64_t capmarrow_event_of(double origin_x, double origin_y, double origin_z, double edge, uint64_t kind, double x, double y, double z, double error, uint64_t entity, uint64_t grid, uint64_t *told, size_t told_len);
 
 #ifdef __cplusplus
 }

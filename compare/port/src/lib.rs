@@ -6,9 +6,11 @@
 mod ffi;
 
 pub mod calls;
+mod reports;
 mod types;
 mod yard;
 
+pub use reports::{event_of, BadReport, Event, Frame, Report};
 pub use types::{Answer, Batch, Cell, Cube, Flood, Group, Lookup, Refusal};
 pub use yard::Yard;
 

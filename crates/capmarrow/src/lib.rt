@@ -1,5 +1,7 @@
 // The calls for programs in C and Rust: numbers and slices alone, each slice a pointer and its length. Every function gives back
-// document 01's number; what else a question tells stands in `told`, and is written only where the number is 0 or 8.
+// the documents' number; what else is told stands in `told`, and is written only where the number is 0 or 8, of a report also 10 or 11.
+mod reports;
+
 use ask::CountOf;
 use ask::Depth;
 use ask::Flooding;
@@ -9,6 +11,7 @@ use ask::Listing;
 use ask::Where;
 use component::CellCoord;
 use component::CellId;
+pub use reports::capmarrow_event_of;
 ghost use mathlib.Core.Path.{_≡_};
 ghost use mathlib.Core.List.{List};
 ghost use Prim.Native.Nat.{ℕ, _≤_};

@@ -1,0 +1,160 @@
+-- Frames: whole metres, and the seven edges.
+use mathlib.Core.Path.{_≡_, refl, sym, ap, _∙_, subst}
+use Prim.Native.Nat.{ℕ, suc, _+_, _-_, _*_, _/_, _%_, _^_, _≤_, _<_}
+use native.Mathlib.Nat.{mul-pos, lt-irrefl, div-add-mod', mul-mod-left, mul-le-mul-right, le-of-mul-le-mul-right}
+use native.Mathlib.Omega.{arith}
+use mathlib.Core.Bool.{Bool, true, false, not, _&&_, _||_, and-true, true≢false}
+use lib.Dec.{T, ltb, leb, eqb, nltb→le, eqb→eq, lit≤, le→leb, leb→le}
+use lib.Arith.{le→nltb}
+use lib.Pow.{pow-pos}
+use lib.IntN.{ℤ, pos, negsuc, natAbs, _*ℤ_}
+use lib.Ieee.{Float, nan, inf, fin, binary64, up, down, fits, eq, lt, ofInt, round, toUnsigned, inUnsigned}
+use lib.Ieee.Fits.{and-l, and-r, down-pos, eq→eqb}
+use lib.Ieee.Exact.{HasValue}
+use lib.Ieee.Back.{whole-unique, unsigned-back, round-whole}
+use lib.Ieee.Scale.{finite}
+use Rattle.exact.specs.Units.{metre, exact}
+use Rattle.metres.specs.Known.{Edge, EdgeIs}
+use Rattle.metres.specs.Place.{isMetres, near, edgeOk, originOk, errorOk}
+use Rattle.exact.specs.Laws.Units.{metre-pos, same-test, natAbs-signed, eq-same, left-over, right-over}
+use Rattle.exact.specs.Laws.Tests.{zeroF, true-T, T-true}
+use Rattle.exact.specs.Laws.Whole.{in-float, lt-zero, whole-known, whole-exact}
+
+-- ---- whole metres
+nothing-left : (w r n : ℕ) → w + r ≡ n → n ≤ w → r ≡ 0
+nothing-left w r n e h = omega arith
+
+none-left : (w r n : ℕ) → w + r ≡ n → r ≡ 0 → n ≤ w
+none-left w r n e h = omega arith
+
+whole-test : (n u : ℕ) → not (ltb (n / u * u) n) ≡ eqb (n % u) 0
+whole-test n u = same-test (not (ltb (n / u * u) n)) (eqb (n % u) 0)
+    (λ t. eq→eqb (nothing-left (n / u * u) (n % u) n (div-add-mod' n u) (nltb→le (n / u * u) n t)))
+    (λ t. le→nltb (n / u * u) n (none-left (n / u * u) (n % u) n (div-add-mod' n u) (eqb→eq (n % u) 0 t)))
+
+pub origin-far : (x : Float) → near x ≡ false → false ≡ originOk x
+unfolding originOk
+origin-far x h = sym (ap (λ (b : Bool). b && eqb (natAbs (exact x) % metre) 0) h)
+
+pub origin-near : (x : Float) (n : ℕ) (r : Bool) → near x ≡ true → n ≡ natAbs (exact x) / metre → r ≡ ltb (n * metre) (natAbs (exact x)) → not r ≡ originOk x
+unfolding originOk
+origin-near x n r h e k =
+    ap not (k ∙ ap (λ (m : ℕ). ltb (m * metre) (natAbs (exact x))) e) ∙ whole-test (natAbs (exact x)) metre
+    ∙ sym (ap (λ (b : Bool). b && eqb (natAbs (exact x) % metre) 0) h)
+
+-- ---- an error
+pub error-test : (x : Float) → T (fits binary64 x) → (finite x && not (lt x zeroF)) ≡ errorOk x
+unfolding errorOk
+error-test nan t = refl
+error-test (inf s) t = refl
+error-test (fin s m e) t = ap not (lt-zero (fin s m e) (record { fits = t; finite = tt }))
+
+-- ---- edges
+power-pos : (k : ℕ) → 0 < 1 * 2 ^ k
+power-pos k = mul-pos (pow-pos 0) (pow-pos k)
+
+no-power : (a k d : ℕ) → 0 < d → a ≡ 1 * 2 ^ k * d → a ≡ 0 → ⊥
+no-power a k d D e z = lt-irrefl 0 (subst (λ (x : ℕ). 0 < x) (sym e ∙ z) (mul-pos (power-pos k) D))
+
+is-power : (x : Float) (k : ℕ) → T (fits binary64 x) → T (fits binary64 (fin false 1 (pos k))) → T (eq x (fin false 1 (pos k))) → x ≡ fin false 1 (pos k)
+unfolding eq
+is-power nan k t u h = absurd h
+is-power (inf s) k t u h = absurd h
+is-power (fin false m e) k t u h =
+    whole-unique binary64 (fin false m e) (fin false 1 (pos k)) false (1 * 2 ^ k) t u
+    (refl, eqb→eq (m * up e * 1) (1 * 2 ^ k * down e) (and-l (eqb (m * up e * 1) (1 * 2 ^ k * down e)) true h)) (refl, refl)
+is-power (fin true m e) k t u h =
+    absurd (no-power (m * up e * 1) k (down e) (down-pos e) (eqb→eq (m * up e * 1) (1 * 2 ^ k * down e) (and-l (eqb (m * up e * 1) (1 * 2 ^ k * down e)) (eqb (m * up e * 1) 0) h))
+    (eqb→eq (m * up e * 1) 0 (and-r (eqb (m * up e * 1) (1 * 2 ^ k * down e)) (eqb (m * up e * 1) 0) h)))
+
+record Named (e : Float) : Type 0 where
+  count : ℕ
+  is : e ≡ ofInt binary64 (pos count)
+  low : 1 ≤ count
+  high : count ≤ 64
+
+one : (e : Float) (n k : ℕ) → ofInt binary64 (pos n) ≡ fin false 1 (pos k) → T (fits binary64 (fin false 1 (pos k))) → 1 ≤ n → n ≤ 64 → T (fits binary64 e) → T (eq e (ofInt binary64 (pos n))) → Named e
+one e n k p u l h t q = record { count = n; is = is-power e k t u (subst (λ (x : Float). T (eq e x)) p q) ∙ sym p; low = l; high = h }
+
+either : {A : Type 0} (a b : Bool) → (T a → A) → (T b → A) → T (a || b) → A
+either true b f g t = f tt
+either false b f g t = g t
+
+named : (e : Float) → T (fits binary64 e) → T (edgeOk e) → Named e
+unfolding edgeOk ofInt fits round
+named e t =
+    let b6 : Bool = isMetres e 32 || isMetres e 64 in
+    let b5 : Bool = isMetres e 16 || b6 in
+    let b4 : Bool = isMetres e 8 || b5 in
+    let b3 : Bool = isMetres e 4 || b4 in
+    let b2 : Bool = isMetres e 2 || b3 in
+    either (isMetres e 1) b2 (one e 1 0 refl tt (lit≤ tt) (lit≤ tt) t)
+    (either (isMetres e 2) b3 (one e 2 1 refl tt (lit≤ tt) (lit≤ tt) t)
+    (either (isMetres e 4) b4 (one e 4 2 refl tt (lit≤ tt) (lit≤ tt) t)
+    (either (isMetres e 8) b5 (one e 8 3 refl tt (lit≤ tt) (lit≤ tt) t)
+    (either (isMetres e 16) b6 (one e 16 4 refl tt (lit≤ tt) (lit≤ tt) t)
+    (either (isMetres e 32) (isMetres e 64) (one e 32 5 refl tt (lit≤ tt) (lit≤ tt) t) (one e 64 6 refl tt (lit≤ tt) (lit≤ tt) t))))))
+
+fits-word : (n : ℕ) → n ≤ 64 → n < 2 ^ 64
+fits-word n h = omega arith
+
+small : (n : ℕ) → n ≤ 64 → n ≤ 2 ^ 53
+small n h = omega arith
+
+module _ (e : Float) (k : Edge e) where
+  who : Named e
+  who = named e (k .fits) (true-T (k .named))
+
+  back : T (inUnsigned binary64 64 (ofInt binary64 (pos (who .count)))) × (toUnsigned 64 (ofInt binary64 (pos (who .count))) ≡ who .count)
+  back = unsigned-back binary64 64 (who .count) (in-float (who .count) (small (who .count) (who .high))) (fits-word (who .count) (who .high))
+
+  pub edge-casts : T (inUnsigned binary64 64 e)
+  edge-casts = subst (λ (x : Float). T (inUnsigned binary64 64 x)) (sym (who .is)) (back .0)
+
+  pub edge-is : EdgeIs e (toUnsigned 64 e)
+  edge-is =
+      let same : toUnsigned 64 e ≡ who .count = ap (toUnsigned 64) (who .is) ∙ back .1 in
+      subst (EdgeIs e) (sym same) (record { same = ap exact (who .is) ∙ whole-exact (pos (who .count)) (small (who .count) (who .high)); low = who .low; high = who .high })
+
+-- ---- an origin's coordinate that is a whole number of metres to begin with, as a stored one is
+natAbs-times : (z : ℤ) (u : ℕ) → natAbs (z *ℤ pos u) ≡ natAbs z * u
+natAbs-times (pos n) u = refl
+natAbs-times (negsuc n) u = natAbs-signed true (suc n * u)
+
+leb-times : (a b u : ℕ) → 0 < u → leb (a * u) (b * u) ≡ leb a b
+leb-times a b u U = same-test (leb (a * u) (b * u)) (leb a b) (λ t. le→leb a b (le-of-mul-le-mul-right (leb→le (a * u) (b * u) t) U)) (λ t. le→leb (a * u) (b * u) (mul-le-mul-right u (leb→le a b t)))
+
+and-right : (a b : Bool) → b ≡ true → (a && b) ≡ a
+and-right a b h = ap (λ (x : Bool). a && x) h ∙ and-true a
+
+pub origin-whole : (z : ℤ) → natAbs z ≤ 2 ^ 53 → originOk (ofInt binary64 z) ≡ leb (natAbs z) 1048576
+unfolding originOk near
+origin-whole z h =
+    let x = ofInt binary64 z in
+    let n : natAbs (exact x) ≡ natAbs z * metre = ap natAbs (whole-exact z h) ∙ natAbs-times z metre in
+    and-right (finite x && leb (natAbs (exact x)) (1048576 * metre)) (eqb (natAbs (exact x) % metre) 0) (T-true (eqb (natAbs (exact x) % metre) 0) (eq→eqb (ap (λ (m : ℕ). m % metre) n ∙ mul-mod-left (natAbs z) metre)))
+    ∙ ap (λ (b : Bool). b && leb (natAbs (exact x)) (1048576 * metre)) (T-true (finite x) (whole-known z h .finite))
+    ∙ ap (λ (m : ℕ). leb m (1048576 * metre)) n
+    ∙ leb-times (natAbs z) 1048576 metre metre-pos
+
+-- ---- an edge that is a whole number of metres to begin with
+eq-ints : (x y : Float) (n k : ℕ) → HasValue x false n 1 → HasValue y false k 1 → eq x y ≡ eqb n k
+unfolding eq
+eq-ints nan y n k h g = absurd h
+eq-ints (inf s) y n k h g = absurd h
+eq-ints (fin true m e) y n k h g = absurd (true≢false (h .0))
+eq-ints (fin false m e) nan n k h g = absurd g
+eq-ints (fin false m e) (inf t) n k h g = absurd g
+eq-ints (fin false m e) (fin true l d) n k h g = absurd (true≢false (g .0))
+eq-ints (fin false m e) (fin false l d) n k h g =
+    and-true (eqb (m * up e * down d) (l * up d * down e))
+    ∙ eq-same (m * up e * down d) (l * up d * down e) (down e * down d) 1 n k (mul-pos (down-pos e) (down-pos d)) (pow-pos 0)
+    (left-over (m * up e) (down e) 1 n (down d) (h .1)) (right-over (l * up d) (down d) 1 k (down e) (g .1))
+
+is-int : (n k : ℕ) → n ≤ 2 ^ 53 → k ≤ 2 ^ 53 → isMetres (ofInt binary64 (pos n)) k ≡ eqb n k
+unfolding ofInt
+is-int n k h g = eq-ints (round binary64 false n 1) (round binary64 false k 1) n k (round-whole binary64 false n h) (round-whole binary64 false k g)
+
+pub edge-whole : (n : ℕ) → n ≤ 2 ^ 53 → edgeOk (ofInt binary64 (pos n)) ≡ (eqb n 1 || (eqb n 2 || (eqb n 4 || (eqb n 8 || (eqb n 16 || (eqb n 32 || eqb n 64))))))
+unfolding edgeOk
+edge-whole n h = λ i. is-int n 1 h (lit≤ tt) i || (is-int n 2 h (lit≤ tt) i || (is-int n 4 h (lit≤ tt) i || (is-int n 8 h (lit≤ tt) i || (is-int n 16 h (lit≤ tt) i || (is-int n 32 h (lit≤ tt) i || is-int n 64 h (lit≤ tt) i)))))

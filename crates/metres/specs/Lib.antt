@@ -1,0 +1,6 @@
+pub mod Place
+pub mod Answer
+pub mod Numbers
+pub mod Known
+pub mod Laws
+pub mod Theorems

@@ -1,0 +1,3 @@
+pub mod Words
+pub mod Laws
+pub mod Theorems

@@ -1,0 +1,23 @@
+-- Events as moves: the words of a move, where they are put in a batch, and the move that they stand for.
+use Prim.Native.Nat.{ℕ, _+_}
+use mathlib.Core.Bool.{cond}
+use mathlib.Core.List.{List, _∷_}
+use lib.Dec.{leb}
+use lib.ListN.{length}
+use Rattle.component.specs.Stored.{stored}
+use Rattle.model.specs.Cells.{Cell}
+use Rattle.table.specs.Moves.{over}
+use Rattle.map.specs.Answers.{answerWords}
+use Rattle.metres.specs.declared.Placing.{Placing}
+
+-- The words of the move that an event makes: entity, grid, x, y, z.
+abbrev pub moveWords : Placing → List ℕ
+moveWords e = e .entity ∷ answerWords (stored (e .cell))
+
+-- They are put at a place of a batch: 0, or 1 and the words as they were where the batch ends before.
+unfoldable pub moved : List ℕ → ℕ → Placing → ℕ × List ℕ
+moved s at e = cond (leb (at + 5) (length s)) (0, over s at (moveWords e)) (1, s)
+
+-- The move that an event makes: its entity goes to its cell.
+abbrev pub moveOf : Placing → ℕ × Cell
+moveOf e = (e .entity, stored (e .cell))

@@ -1,0 +1,30 @@
+// Events as moves: what a report makes, in the words of a batch.
+use metres::Placing;
+ghost use mathlib.Core.Path.{_≡_};
+ghost use mathlib.Core.List.{List};
+ghost use Prim.Native.Nat.{ℕ, _+_};
+ghost use lib.Dec.{leb};
+ghost use Rattle.moves.specs.Words.{moved};
+
+// Whether five words from a place on lie within so many.
+fn has_room(len: usize, at: usize) -> bool
+    ensures { λ r. ⌜ r ≡ leb (at + 5) len ⌝ }
+{
+    if len < 5 {
+        return false;
+    }
+    at <= len - 5
+}
+
+// The move that an event makes stands at a place of a batch: 0; or 1, and nothing is written, where the batch ends before.
+pub fn put_move(batch: &mut [u64], at: usize, e: Placing) -> u64
+    ensures { λ r. ⌜ _≡_ {A = ℕ × List ℕ} (r, now (batch .exit)) (moved (now (batch .entry)) at e) ⌝ }
+{
+    if !has_room(batch.len(), at) {
+        return 1;
+    }
+    let mut words = [e.entity, 0, 0, 0, 0];
+    map::write_cell(&mut words, 1, component::stored(e.cell));
+    table::write_row(batch, at, &words);
+    0
+}

@@ -1,0 +1,83 @@
+// From reports in metres to groups: the reports of a batch become its moves, the yard is updated, and each entity is told with its
+// cell and its group.
+mod telling;
+
+use metres::Answer;
+use metres::Frame;
+use metres::Report;
+
+// The move that a report makes, behind the moves that a batch has; the answer is how many it has then.
+fn add_move(batch: &mut [u64], moves: usize, entity: u64, report: Report) -> usize {
+    let frame = Frame {
+        x: 100.0,
+        y: -50.0,
+        z: 0.0,
+        edge: 2.0,
+    };
+    let n = moves % 1024;
+    match metres::event_of(frame, report, entity, 1) {
+        Answer::Event(e) => {
+            telling::event(entity, e.cell);
+            if moves::put_move(batch, 5 * n, e) != 0 {
+                return n;
+            }
+            n + 1
+        }
+        Answer::NoEvent => {
+            telling::none(entity);
+            n
+        }
+        Answer::Refused(r) => {
+            telling::refused(entity, r);
+            n
+        }
+    }
+}
+
+// The batch is played, and the entities are told.
+fn play(state: &mut [u64], batch: &[u64], moves: usize) {
+    let number = yard::update(state, batch, 0, moves as u64);
+    telling::batch(moves as u64, number);
+    telling::stands(state, 1);
+    telling::stands(state, 2);
+    telling::stands(state, 3);
+    telling::stands(state, 4);
+}
+
+// Two tractors in touching cells and one apart; a lost receiver and a bad reading make no move.
+fn first(state: &mut [u64], batch: &mut [u64], nan: f64) {
+    let a = add_move(batch, 0, 1, Report::Fix(100.5, -49.5, 0.25));
+    let b = add_move(batch, a, 2, Report::Reckoned(99.5, -48.0, 0.0, 0.75));
+    let c = add_move(batch, b, 3, Report::Fix(105.0, -50.0, 0.0));
+    let d = add_move(batch, c, 4, Report::Nothing);
+    let n = add_move(batch, d, 4, Report::Fix(100.0, nan, 0.0));
+    play(state, batch, n);
+}
+
+// A fourth tractor joins the groups; the second stays in its cell.
+fn second(state: &mut [u64], batch: &mut [u64]) {
+    let a = add_move(batch, 0, 4, Report::Fix(102.0, -50.0, 0.0));
+    let n = add_move(batch, a, 2, Report::Fix(98.0, -46.00000000000001, 1.0));
+    play(state, batch, n);
+}
+
+// It leaves, just below the cell where it stood, and the groups part.
+fn third(state: &mut [u64], batch: &mut [u64]) {
+    let n = add_move(
+        batch,
+        0,
+        4,
+        Report::Fix(2000.0, -50.000000000000014, -5e-324),
+    );
+    play(state, batch, n);
+}
+
+fn main() {
+    let mut state = [0u64; 48136];
+    let mut batch = [0u64; 25];
+    let zero = 0.0;
+    yard::fresh(&mut state, 0);
+    first(&mut state, &mut batch, 0.0 / zero);
+    second(&mut state, &mut batch);
+    third(&mut state, &mut batch);
+}

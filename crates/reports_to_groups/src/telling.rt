@@ -1,0 +1,84 @@
+// What is told of reports, batches and entities, a line each.
+use component::CellId;
+use libc::STDOUT_FILENO;
+use refusal::Refusal;
+use yard::IdOf;
+use yard::Where;
+
+fn say(text: &[u8]) {
+    io::write_all(STDOUT_FILENO, text);
+}
+
+fn number(text: &[u8], n: u64) {
+    say(text);
+    io::print_decimal(STDOUT_FILENO, n);
+}
+
+// A coordinate, from its stored form, which is 2^31 more.
+fn coordinate(n: u64) {
+    if n < 2147483648 {
+        number(b" -", 2147483648 - n);
+        return;
+    }
+    number(b" ", n - 2147483648);
+}
+
+fn cell(c: CellId) {
+    let d = component::stored(c);
+    coordinate(d.x);
+    coordinate(d.y);
+    coordinate(d.z);
+}
+
+pub fn event(entity: u64, c: CellId) {
+    number(b"report of ", entity);
+    say(b": to");
+    cell(c);
+    say(b"\n");
+}
+
+pub fn none(entity: u64) {
+    number(b"report of ", entity);
+    say(b": no event\n");
+}
+
+pub fn refused(entity: u64, r: Refusal) {
+    number(b"report of ", entity);
+    number(b": refused ", r.number);
+    number(b" at ", r.at);
+    number(b" axis ", r.axis);
+    say(b"\n");
+}
+
+pub fn batch(moves: u64, code: u64) {
+    number(b"batch of ", moves);
+    number(b" moves: code ", code);
+    say(b"\n");
+}
+
+// Where an entity stands, and the id of its group.
+pub fn stands(state: &[u64], entity: u64) {
+    match yard::where_is(state, entity) {
+        Where::Found(c) => {
+            number(b"entity ", entity);
+            cell(c);
+            group(state, c);
+        }
+        Where::NotFound => {
+            number(b"entity ", entity);
+            say(b" stands nowhere\n");
+        }
+        Where::Refused(n) => number(b"refused ", n),
+    }
+}
+
+fn group(state: &[u64], c: CellId) {
+    match yard::id_of(state, c) {
+        IdOf::Found(id) => {
+            number(b" group ", id);
+            say(b"\n");
+        }
+        IdOf::NotFound => say(b" no group\n"),
+        IdOf::Refused(n) => number(b" refused ", n),
+    }
+}
