@@ -136,7 +136,7 @@ emptiedOf w answer = unlessRefused (refusal w) answer (listedCells (there (decod
 unfoldable pub entitiesOf : List ℕ → CellId → List ℕ → Listing × List ℕ
 entitiesOf w c answer = unlessRefused (cellRefusal w c) answer (listedNumbers (entitiesIn (decode w) (stored c)) answer)
 
--- A cell, then its list in list order.
+-- A cell, then the occupied cells that it touches, in cell order.
 unfoldable pub nearbyOf : List ℕ → CellId → List ℕ → Listing × List ℕ
 nearbyOf w c answer = unlessRefused (cellRefusal w c) answer (listedCells (nearby touch26 (decode w) (stored c)) answer)
 

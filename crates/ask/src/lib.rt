@@ -473,7 +473,7 @@ pub fn entities_in(state: &[u64], cell: CellId, answer: &mut [u64]) -> Listing
     give_entities(rows, n, component::stored(cell), answer)
 }
 
-// A cell and its list, by the rows of the occupied cells.
+// A cell and the occupied cells that it touches, by the rows of the occupied cells.
 fn give_nearby(cells: &[u64], n: usize, c: Cell, answer: &mut [u64]) -> Listing
     requires { ⌜ Cells (now cells) n (cellsIn n (now cells)) ⌝ }
     ensures { λ r. ⌜ (r, now (answer .exit)) ≡ listedCells (nearbyBy touch26 (having (cellsIn n (now (cells .entry)))) c) (now (answer .entry)) ⌝ }
@@ -489,7 +489,7 @@ fn give_nearby(cells: &[u64], n: usize, c: Cell, answer: &mut [u64]) -> Listing
     }
 }
 
-// A cell, then its list in list order.
+// A cell, then the occupied cells that it touches, in cell order.
 pub fn nearby(state: &[u64], cell: CellId, answer: &mut [u64]) -> Listing
     ensures { λ r. ⌜ (r, now (answer .exit)) ≡ nearbyOf (now (state .entry)) cell (now (answer .entry)) ⌝ }
 {

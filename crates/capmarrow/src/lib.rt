@@ -355,7 +355,7 @@ pub extern "C" fn capmarrow_entities_in(
     tell_listing(told, a)
 }
 
-// A cell, then its list in list order, four words each. Told: found, count.
+// A cell, then the occupied cells that it touches in cell order, four words each. Told: found, count.
 #[no_mangle]
 pub extern "C" fn capmarrow_nearby(
     state: &[u64],

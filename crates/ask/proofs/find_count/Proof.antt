@@ -1,6 +1,5 @@
 -- The mask stands in the row that is found.
 use Prim.Native.Nat.{ℕ, _+_, _*_, _≤_}
-use native.Mathlib.Omega.{arith}
 use mathlib.Core.Path.{_≡_, _∙_, sym, ap}
 use mathlib.Core.Option.{Option}
 use lib.ListN.{length}
@@ -8,12 +7,9 @@ use borrow.Author.Needs.{needs}
 use Rattle.model.specs.Cells.{below}
 use Rattle.model.specs.Lists.{keys}
 use Rattle.model.specs.Questions.{onesOf}
-use Rattle.table.specs.Laws.Kinds.{cell-lawful}
-use Rattle.table.specs.Rows.{cell, placeOf, table4}
+use Rattle.table.specs.Rows.{placeOf, table4}
 use Rattle.table.specs.declared.Place.the-variants.{Found}
-use Rattle.table.specs.Laws.Answers.{found-below}
-use Rattle.table.specs.Laws.Images.{table-facts}
-use Rattle.ask.specs.Laws.Finds.{mask-found, mask-missing}
+use Rattle.ask.specs.Laws.Finds.{cell-inside, mask-found, mask-missing}
 use Rattle.ask.specs.declared.CountOf.{CountOf}
 use Rattle.ask.specs.Answers.{countFrom}
 use Rattle.ask.proofs.find_count.Statement.{statement}
@@ -29,7 +25,7 @@ inside : (k : tie.After-known-told) → let s = k .before .before .before .befor
     5 * k .before .p .given .0 .0 + 5 ≤ length (s .args .rows .now)
 inside k =
     let s = k .before .before .before .before .before in
-    omega (arith, found-below cell cell-lawful 5 (s .args .n) (s .args .rows .now) (s .args .c) (k .before .p .given .0 .0) (at k), table-facts cell 5 (s .args .n) (s .args .rows .now) (s .pre) .fits)
+    cell-inside (s .args .n) (s .args .rows .now) (s .args .c) (k .before .p .given .0 .0) (s .pre) (at k)
 
 find4-requires : tie.Need-find4-requires
 find4-requires c κs = search needs

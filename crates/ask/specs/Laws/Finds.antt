@@ -65,6 +65,10 @@ module _ (n : ℕ) (s : List ℕ) (k : ℕ) (i : ℕ) (ok : isTable1 5 n s ≡ t
       get-each eqb (λ (v : List ℕ). cellAt v 0) (table1 5 n s) k ∙ ap (read (λ (v : List ℕ). cellAt v 0)) (missing-none number number-lawful 5 n s k i ok e)
 
 module _ (n : ℕ) (s : List ℕ) (k : Cell) (i : ℕ) (ok : isTable4 5 n s ≡ true) where
+  -- The row of a cell that is found is within the words.
+  pub cell-inside : Found i ≡ placeOf below (keys (table4 5 n s)) k → 5 * i + 5 ≤ length s
+  cell-inside e = omega (arith, found-below cell cell-lawful 5 n s k i e, table-facts cell 5 n s ok .fits)
+
   -- Under a cell that is found stands the number of its row.
   number-found : Found i ≡ placeOf below (keys (table4 5 n s)) k → get same (each idOf (table4 5 n s)) k ≡ some (getD s (5 * i + 4) 0)
   number-found e =
