@@ -21,7 +21,7 @@ extern "C" {
 #endif
 
 /* How many words a state has. */
-#define CAPMARROW_STATE_LEN 48136
+#define CAPMARROW_STATE_LEN 48144
 /* The longest answer of a list: 1,024 cells of four words, or 4,096 entities. */
 #define CAPMARROW_ANSWER_LEN 4096
 /* The longest batch: 1,024 moves of five words. */

@@ -15,7 +15,7 @@ pub use types::{Answer, Batch, Cell, Cube, Flood, Group, Lookup, Refusal};
 pub use yard::Yard;
 
 /// How many words a state has.
-pub const STATE_LEN: usize = 48_136;
+pub const STATE_LEN: usize = 48_144;
 /// How many occupied cells a yard has at most.
 pub const MOST_CELLS: usize = 1_024;
 /// How many entities a yard has at most.

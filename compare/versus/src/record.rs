@@ -1,67 +1,57 @@
-//! The Rust's answers for some scripts, written as plain numbers, so that the port can be held against them where there is no Rust:
-//! crate `replayed` reads them from its file `stdin`. Nothing of the port is asked here, but whether a batch is refused.
+//! The Rust's answers for some scripts, written as rows of crate `cases`, so that the port can be held against them where there is no
+//! Rust: `versus record SEED > crates/cases/data/recorded.txt`. Nothing of the port is asked here, but whether a batch is refused.
 //!
-//! The record is in parts, each of them what it is, how many numbers it has, and these:
-//!
-//!   1  a fresh yard: FIRST-ID X Y Z; all coordinates up to the next yard are told from X, Y, Z
-//!   2  a batch: REMOVALS MOVES GIVEN, the GIVEN words, and its number; where that is 0, what the yard shows follows:
-//!        CELLS, then for each, ascending:   grid x y z GROUP COUNT LIST..   (groups are numbered as they come up, from 0; a list's
-//!                                           cells by their numbers among the 26, from 1)
-//!        IDS GROUPS, then for each as they come up:   id count, low x y z, high x y z   (ids are told where IDS is 1)
-//!        the newly occupied and the newly emptied cells:   COUNT, then grid x y z of each
-//!        a flood:      grid x y z DEEP DEPTH BUDGET FOUND NUMBER ALL, then the place of each cell among the cells above
-//!        a cube:       grid x y z RADIUS FOUND NUMBER, then the places
-//!        a cell:       grid x y z FOUND COUNT, then its entities
-//!        an entity:    ENTITY FOUND grid x y z   (where it stands if it is found)
-//!   0  the end
+//! The Rust gives touching cells and floods in orders of its own: they are written in cell order, the cell that is asked about first
+//! (`nearby`), or the word `sorted` is added (`flood`). Floods that a depth or a budget cuts are not written. Where the ids of both sides
+//! can no longer be told from each other, it is written which cells share one (`share`), and how many there are (`ids` with no room).
 
 use crate::offer::Offer;
-use crate::plain::touching;
 use crate::rng::Rng;
 use crate::rust_side::RustYard;
 use crate::scripts::{Kind, Plan};
 use capmarrow::{Cell, Group};
 use std::collections::BTreeMap;
 
-/// A line of numbers.
-fn line(numbers: impl IntoIterator<Item = i128>) -> String {
-    let words: Vec<String> = numbers.into_iter().map(|n| n.to_string()).collect();
-    words.join(" ") + "\n"
+fn place(c: Cell) -> String {
+    format!("{} {} {} {}", c.grid, c.x, c.y, c.z)
 }
 
-/// A part of the record.
-fn part(mark: u8, numbers: &str) -> String {
-    format!("{mark} {}\n{numbers}", numbers.split_whitespace().count())
-}
-
-fn whole(n: u64) -> i128 {
-    i128::from(n)
-}
-
-/// The axes of a corner from which the coordinates of a script are told.
-struct Origin([i64; 3]);
-
-impl Origin {
-    fn axes(&self, axes: [i32; 3]) -> impl Iterator<Item = i128> + '_ {
-        axes.into_iter().zip(self.0).map(|(n, from)| i128::from(i64::from(n) - from))
-    }
-
-    fn place(&self, c: Cell) -> impl Iterator<Item = i128> + '_ {
-        [whole(c.grid)].into_iter().chain(self.axes([c.x, c.y, c.z]))
-    }
-
-    fn corners<'a>(&'a self, group: &'a Group) -> impl Iterator<Item = i128> + 'a {
-        group.corners.iter().flat_map(|corner| self.axes(*corner))
-    }
-
-    /// The words of an offer, as signed numbers; the coordinates of its moves are told from the origin.
-    fn words(&self, offer: &Offer) -> Vec<i128> {
-        let needed = offer.removals.saturating_add(offer.moves.saturating_mul(5)).min(offer.words.len() as u64);
-        let told = |(i, word): (usize, &u64)| match (i as u64).checked_sub(offer.removals).map(|k| k % 5) {
-            Some(k) if k >= 2 => (*word as i64).wrapping_sub(self.0[k as usize - 2]),
-            _ => *word as i64,
+/// The items of a list, `..` for those within a run of three or more, each one more than the one before.
+fn items<T: Copy>(all: &[T], told: impl Fn(T) -> String, is_next: impl Fn(T, T) -> bool) -> String {
+    let follows = |i: usize| i > 0 && i < all.len() && is_next(all[i - 1], all[i]);
+    let mut text = String::new();
+    for (i, item) in all.iter().enumerate() {
+        if follows(i) && follows(i + 1) {
+            continue;
+        }
+        let between = if i == 0 {
+            ""
+        } else if follows(i) && follows(i - 1) {
+            " .."
+        } else {
+            ","
         };
-        offer.words.iter().enumerate().take(needed as usize).map(told).map(i128::from).collect()
+        text += &format!("{between} {}", told(*item));
+    }
+    text
+}
+
+/// A list of cells as an answer has it: how many, and the cells.
+fn cells(all: &[Cell]) -> String {
+    let is_next = |a: Cell, b: Cell| (a.grid, a.x + 1, a.y, a.z) == (b.grid, b.x, b.y, b.z);
+    format!("{}:{}", all.len(), items(all, place, is_next))
+}
+
+/// The same of numbers.
+fn numbers(all: &[u64]) -> String {
+    format!("{}:{}", all.len(), items(all, |n| n.to_string(), |a, b| a.checked_add(1) == Some(b)))
+}
+
+fn found(is_found: bool) -> &'static str {
+    if is_found {
+        "found"
+    } else {
+        "not found"
     }
 }
 
@@ -79,19 +69,19 @@ const KINDS: [(Kind, usize); 8] = [
 
 pub fn record(seed: u64) -> String {
     let mut rng = Rng::new(seed);
-    let mut text = String::new();
+    let mut text = String::from("% Answers of the Rust, as `versus record` wrote them.\n");
     for (kind, times) in KINDS {
-        for _ in 0..times {
+        for k in 1..=times {
             let plan = Plan::of(kind, &mut rng);
+            text += &format!("\n# Recorded: {} {k}\n", kind.name());
             text += &script(&plan, &mut rng);
         }
     }
-    text + &part(0, "")
+    text
 }
 
 fn script(plan: &Plan, rng: &mut Rng) -> String {
-    let origin = Origin([plan.corner.x.into(), plan.corner.y.into(), plan.corner.z.into()]);
-    let mut text = part(1, &line([whole(plan.first_id)].into_iter().chain(origin.0.map(i128::from))));
+    let mut text = format!("fresh {} = code 0\n", plan.first_id);
     let mut yard = RustYard::new(rng.next());
     let mut ids = true;
     for k in 0..plan.batches.min(24) {
@@ -101,65 +91,113 @@ fn script(plan: &Plan, rng: &mut Rng) -> String {
         if plan.first_id != 0 && !ids {
             break;
         }
-        let words = origin.words(&offer);
-        let head = [whole(offer.removals), whole(offer.moves), words.len() as i128];
-        let mut numbers = line(head.into_iter().chain(words).chain([whole(number)]));
+        text += &format!("{}update = code {number}\n", events(&offer));
         if number == 0 {
             ids &= yard.update(&offer.batch()).leaves_ids_comparable();
-            numbers += &shown(&yard, &origin, ids.then_some(plan.first_id), rng);
+            text += &shown(&yard, ids.then_some(plan.first_id), rng);
         }
-        text += &part(2, &numbers);
+    }
+    text
+}
+
+/// The events of an offer, and what the call is told of them and lent where that is something else. A move that lacks words is filled up.
+fn events(offer: &Offer) -> String {
+    let needed = offer.removals.saturating_add(offer.moves.saturating_mul(5)).min(offer.words.len() as u64);
+    let words = &offer.words[..needed as usize];
+    let (removals, moves) = words.split_at(offer.removals.min(needed) as usize);
+    let mut text: String = removals.iter().map(|e| format!("remove {e}\n")).collect();
+    for m in moves.chunks(5) {
+        let mut whole = [0; 5];
+        whole[..m.len()].copy_from_slice(m);
+        let [entity, grid, x, y, z] = whole;
+        text += &format!("move {entity} {grid} {} {} {}\n", x as i64, y as i64, z as i64);
+    }
+    if (removals.len() as u64, moves.chunks(5).len() as u64) != (offer.removals, offer.moves) {
+        text += &format!("told {} {}\n", offer.removals, offer.moves);
+    }
+    if moves.len() % 5 != 0 {
+        text += &format!("batch {}\n", words.len());
     }
     text
 }
 
 /// All that is told of a yard; the first id where ids are.
-fn shown(yard: &RustYard, origin: &Origin, first_id: Option<u64>, rng: &mut Rng) -> String {
+fn shown(yard: &RustYard, first_id: Option<u64>, rng: &mut Rng) -> String {
     let lists = yard.lists();
-    let cells: Vec<Cell> = lists.keys().copied().collect();
+    let mut text = String::new();
+    for (c, list) in &lists {
+        let mut near = list.clone();
+        near.sort_unstable();
+        near.insert(0, *c);
+        text += &format!("nearby {} = found {}\n", place(*c), cells(&near));
+    }
+    text += &grouped(yard, lists.keys().copied(), first_id);
+    text += &format!("occupied = found {}\n", cells(&yard.newly_occupied()));
+    text += &format!("emptied = found {}\n", cells(&yard.newly_emptied()));
+    let all: Vec<Cell> = lists.into_keys().collect();
+    text + &asked(yard, &all, rng)
+}
+
+/// The ids of cells, or which of them share one; and the groups as they come up.
+fn grouped(yard: &RustYard, all: impl Iterator<Item = Cell>, first_id: Option<u64>) -> String {
     let ids = yard.ids();
     let (groups, _) = yard.groups();
+    let mut firsts: BTreeMap<u64, Cell> = BTreeMap::new();
     let mut names: Vec<u64> = Vec::new();
-    let mut text = line([cells.len() as i128]);
-    for (c, list) in &lists {
-        let id = ids[c];
-        let come = names.iter().position(|n| *n == id).unwrap_or(names.len());
-        if come == names.len() {
+    let mut text = String::new();
+    for c in all {
+        let id = ids[&c];
+        let first = *firsts.entry(id).or_insert_with(|| {
             names.push(id);
+            c
+        });
+        match first_id {
+            Some(from) => text += &format!("id {} = found {}\n", place(c), from + id),
+            None if first != c => text += &format!("share {} to {} = yes\n", place(first), place(c)),
+            None => {}
         }
-        let numbers = list.iter().map(|d| 1 + touching(*c).position(|t| t == *d).expect("a touching cell") as i128);
-        text += &line(origin.place(*c).chain([come as i128, list.len() as i128]).chain(numbers));
     }
-    text += &line([i128::from(first_id.is_some()), names.len() as i128]);
-    for id in names {
-        let told = first_id.map_or(0, |first| first + id);
-        text += &line([whole(told), whole(groups[&id].count)].into_iter().chain(origin.corners(&groups[&id])));
+    for id in &names {
+        let asked = first_id.map_or_else(|| format!("of {}", place(firsts[id])), |from| (from + id).to_string());
+        text += &format!("group {asked} = found {}\n", record_of(&groups[id]));
     }
-    for net in [yard.newly_occupied(), yard.newly_emptied()] {
-        text += &line([net.len() as i128].into_iter().chain(net.into_iter().flat_map(|c| origin.place(c))));
+    match first_id {
+        Some(from) => {
+            names.sort_unstable();
+            let told: Vec<u64> = names.iter().map(|id| from + id).collect();
+            text + &format!("ids = found {}\n", numbers(&told))
+        }
+        None if names.is_empty() => text + "ids = found 0:\n",
+        None => text + &format!("room 0\nids = too long {}\nroom 4096\n", names.len()),
     }
-    text + &asked(yard, origin, &cells, rng)
+}
+
+/// Grid, count and corners of a group.
+fn record_of(group: &Group) -> String {
+    let [low, high] = group.corners.map(|[x, y, z]| format!("{x} {y} {z}"));
+    format!("{} {} from {low} to {high}", group.grid, group.count)
 }
 
 /// A flood, a cube, a cell and an entity.
-fn asked(yard: &RustYard, origin: &Origin, cells: &[Cell], rng: &mut Rng) -> String {
-    let places: BTreeMap<Cell, i128> = cells.iter().enumerate().map(|(k, c)| (*c, k as i128)).collect();
-    let any = if cells.is_empty() { Cell::new(1, 0, 0, 0) } else { rng.pick(cells) };
+fn asked(yard: &RustYard, all: &[Cell], rng: &mut Rng) -> String {
+    let any = if all.is_empty() { Cell::new(1, 0, 0, 0) } else { rng.pick(all) };
     let seed = if rng.once_in(6) { Cell { grid: any.grid + 9, ..any } } else { any };
-    let found = |c: Cell| i128::from(places.contains_key(&c));
     let depth = rng.once_in(2).then(|| rng.from(-1, 4));
-    let flood = yard.flood(seed, depth);
+    let mut flood = yard.flood(seed, depth);
     let budget = rng.below(flood.len() as u64 + 3);
-    let cut = &flood[..flood.len().min(budget as usize)];
-    let asked = [i128::from(depth.is_some()), depth.unwrap_or(0).into(), whole(budget)];
-    let told = [found(seed), cut.len() as i128, i128::from(flood.len() as u64 <= budget)];
-    let mut text = line(origin.place(seed).chain(asked).chain(told).chain(cut.iter().map(|c| places[c])));
+    let mut text = String::new();
+    if depth.is_none() && flood.len() as u64 <= budget {
+        flood.sort_unstable();
+        let (is, told) = (found(all.contains(&seed)), cells(&flood));
+        text += &format!("flood {} budget {budget} sorted = {is} {}\n", place(seed), told.replacen(':', " all:", 1));
+    }
+    let is = found(all.contains(&any));
     let radius = rng.below(4) as u8;
-    let cube = yard.cube(any, radius);
-    text += &line(origin.place(any).chain([radius.into(), found(any), cube.len() as i128]).chain(cube.iter().map(|c| places[c])));
+    text += &format!("cube {} radius {radius} = {is} {}\n", place(any), cells(&yard.cube(any, radius)));
     let inside = yard.entities_in(any).unwrap_or_default();
-    text += &line(origin.place(any).chain([found(any), inside.len() as i128]).chain(inside.iter().map(|e| whole(*e))));
-    let entity = inside.first().copied().unwrap_or(u64::MAX);
-    let told = [whole(entity), i128::from(!inside.is_empty())];
-    text + &line(told.into_iter().chain(origin.place(any)))
+    text += &format!("entities {} = {is} {}\n", place(any), numbers(&inside));
+    match inside.first() {
+        Some(entity) => text + &format!("where {entity} = found {}\n", place(any)),
+        None => text + &format!("where {} = not found\n", u64::MAX),
+    }
 }

@@ -4,12 +4,12 @@ use crate::plain::touching;
 use capmarrow::{Cell, Group};
 use std::collections::{BTreeMap, BTreeSet};
 
-const ENTITIES: usize = 8;
-const CELLS: usize = 20_488;
-const OCCUPIED: usize = 25_608;
-const EMPTIED: usize = 29_704;
-const IDS: usize = 33_800;
-const GROUPS: usize = 38_920;
+const ENTITIES: usize = 16;
+const CELLS: usize = 20_496;
+const OCCUPIED: usize = 25_616;
+const EMPTIED: usize = 29_712;
+const IDS: usize = 33_808;
+const GROUPS: usize = 38_928;
 
 pub struct StateWords<'a>(pub &'a [u64]);
 

@@ -1,12 +1,5 @@
 pub mod Ways
 pub mod Words
-pub mod Finds
 pub mod Lookups
-pub mod Scans
-pub mod Gives
 pub mod Listings
-pub mod Occupied
-pub mod Cubes
-pub mod Floods
 pub mod Told
-pub mod Paths

@@ -1,6 +1,3 @@
-pub mod Numbers
 pub mod Answers
-pub mod Parts
-pub mod Paths
 pub mod Theorems
 pub mod Laws

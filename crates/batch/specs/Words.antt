@@ -1,19 +1,17 @@
 -- A batch in words: the removals first, one word each, then the moves, five words each: entity, grid, x, y, z.
-use Prim.Native.Nat.{ℕ, _+_, _*_, _%_}
+use Prim.Native.Nat.{ℕ, _+_, _*_}
 use mathlib.Core.Bool.{Bool, cond, _||_, not}
 use mathlib.Core.List.{List}
 use lib.ListN.{length, take, drop, getD}
 use lib.Dec.{ltb}
+use Rattle.component.specs.Stored.{storedWord}
 use Rattle.model.specs.Lists.{each}
-use Rattle.model.specs.Cells.{Cell, bias}
+use Rattle.model.specs.Cells.{Cell}
 use Rattle.model.specs.Occupancy.{Batch}
 use Rattle.model.specs.Update.{tooManyEvents, outOfRange, fewIds}
 use Rattle.table.specs.Rows.{rowsOf}
+use Rattle.layout.specs.Widths.{moveWidth}
 use Rattle.layout.specs.Points.{longEnough}
-
--- A coordinate's word, two's complement, in stored form.
-abbrev pub storedWord : ℕ → ℕ
-storedWord n = (n + bias) % 18446744073709551616
 
 -- The move whose five words stand at a place.
 abbrev pub moveAt : List ℕ → ℕ → ℕ × Cell
@@ -29,7 +27,7 @@ moveAt s at = (
 
 -- The moves that words stand for, n of them.
 unfoldable pub movesIn : ℕ → List ℕ → List (ℕ × Cell)
-movesIn n s = each (λ (row : List ℕ). moveAt row 0) (rowsOf 5 n s)
+movesIn n s = each (λ (row : List ℕ). moveAt row 0) (rowsOf moveWidth n s)
 
 -- The batch that words stand for.
 unfoldable pub batchOf : List ℕ → ℕ → ℕ → Batch
@@ -37,7 +35,7 @@ batchOf s removals moves = record { removals = take removals s; moves = movesIn 
 
 -- 1: the state's words are too few, or the batch's are fewer than its stated number of events needs.
 unfoldable pub tooShort : List ℕ → List ℕ → ℕ → ℕ → Bool
-tooShort w s removals moves = not (longEnough w) || ltb (length s) (removals + 5 * moves)
+tooShort w s removals moves = not (longEnough w) || ltb (length s) (removals + moveWidth * moves)
 
 -- 3, 4 and 5 in that order, 0 if none of them holds.
 unfoldable pub early : ℕ → Batch → ℕ

@@ -1,5 +1,9 @@
 // A batch in words: the removals first, one word each, then the moves, five words each: entity, grid, x, y, z.
 use component::Cell;
+use component::stored_word;
+use layout::MOST_EVENTS;
+use layout::MOST_NEXT_ID;
+use layout::MOVE_WIDTH;
 use layout::state_len;
 ghost use mathlib.Core.Path.{_≡_};
 ghost use mathlib.Core.Bool.{true, false};
@@ -8,18 +12,12 @@ ghost use lib.ListN.{length, drop};
 ghost use lib.Dec.{ltb};
 ghost use Rattle.model.specs.Lists.{all};
 ghost use Rattle.model.specs.Cells.{Cell as CellOf, cellInRange};
-ghost use Rattle.batch.specs.Words.{storedWord, moveAt, movesIn, batchOf, tooShort, early};
-
-// A coordinate's word in stored form.
-pub fn stored_word(n: u64) -> u64
-    ensures { λ r. ⌜ r ≡ storedWord n ⌝ }
-{
-    std::num::wrapping_add_u64(n, 2_147_483_648)
-}
+ghost use Rattle.layout.specs.Widths.{moveWidth};
+ghost use Rattle.batch.specs.Words.{moveAt, movesIn, batchOf, tooShort, early};
 
 // The cell of the move whose words stand at at.
 pub fn move_cell(batch: &[u64], at: usize) -> Cell
-    requires { ⌜ at + 5 ≤ length (now batch) ⌝ }
+    requires { ⌜ at + moveWidth ≤ length (now batch) ⌝ }
     ensures { λ r. ⌜ r ≡ moveAt (now (batch .entry)) at .1 ⌝ }
 {
     Cell {
@@ -32,13 +30,13 @@ pub fn move_cell(batch: &[u64], at: usize) -> Cell
 
 // Whether the words are too few for so many events; a count so large that the words needed pass 2^64 is one.
 fn lacks_words(len: usize, removals: u64, moves: u64) -> bool
-    ensures { λ r. ⌜ r ≡ ltb len (removals + 5 * moves) ⌝ }
+    ensures { λ r. ⌜ r ≡ ltb len (removals + moveWidth * moves) ⌝ }
 {
     let n = len as u64;
     if n < removals {
         return true;
     }
-    (n - removals) / 5 < moves
+    (n - removals) / (MOVE_WIDTH as u64) < moves
 }
 
 // 1: whether the state's words are too few, or the batch's.
@@ -49,13 +47,13 @@ pub fn too_short(state: &[u64], batch: &[u64], removals: u64, moves: u64) -> boo
 }
 
 // Whether every move goes to a cell in range.
-pub fn moves_in_range(batch: &[u64], from: usize, moves: usize) -> bool
-    requires { ⌜ from + 5 * moves ≤ length (now batch) ⌝ }
+fn moves_in_range(batch: &[u64], from: usize, moves: usize) -> bool
+    requires { ⌜ from + moveWidth * moves ≤ length (now batch) ⌝ }
     ensures { λ r. ⌜ r ≡ all (λ (m : ℕ × CellOf). cellInRange (m .1)) (movesIn moves (drop from (now (batch .entry)))) ⌝ }
 {
     let mut i = 0;
     while i < moves {
-        if !component::stored_in_range(move_cell(batch, from + 5 * i)) {
+        if !component::stored_in_range(move_cell(batch, from + MOVE_WIDTH * i)) {
             return false;
         }
         i += 1;
@@ -65,16 +63,16 @@ pub fn moves_in_range(batch: &[u64], from: usize, moves: usize) -> bool
 
 // 3, 4 and 5 in that order: too many events, a coordinate out of range, too few ids left; else 0.
 pub fn early_number(next: u64, batch: &[u64], removals: usize, moves: usize) -> u64
-    requires { ⌜ removals + 5 * moves ≤ length (now batch) ⌝ }
+    requires { ⌜ removals + moveWidth * moves ≤ length (now batch) ⌝ }
     ensures { λ r. ⌜ r ≡ early next (batchOf (now (batch .entry)) removals moves) ⌝ }
 {
-    if removals + moves > 1024 {
+    if removals + moves > MOST_EVENTS {
         return 3;
     }
     if !moves_in_range(batch, removals, moves) {
         return 4;
     }
-    if next > 18446744073709549567 {
+    if next > MOST_NEXT_ID {
         return 5;
     }
     0

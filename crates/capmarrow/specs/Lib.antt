@@ -1,3 +1,1 @@
-pub mod Told
-pub mod Reports
-pub mod Laws
+pub mod Theorems

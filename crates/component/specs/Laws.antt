@@ -5,3 +5,4 @@ pub mod Range
 pub mod Neighbours
 pub mod Adjacent
 pub mod Touch
+pub mod Extremes

@@ -19,6 +19,18 @@ biased n = biasBy 2147483648 n
 abbrev pub unbiased : ℕ → ℤ
 unbiased n = subℕ (n % 4294967296) 2147483648
 
+-- The stored form of a coordinate that a 64-bit word of two's complement gives.
+abbrev pub storedWord : ℕ → ℕ
+storedWord n = (n + 2147483648) % 18446744073709551616
+
+-- A stored coordinate as a 64-bit word of two's complement: 2^31 less.
+abbrev pub signedWord : ℕ → ℕ
+signedWord n = (n + 18446744071562067968) % 18446744073709551616
+
+-- A stored cell of a's grid, built axis by axis.
+abbrev pub storedByAxis : (ℕ → ℕ → ℕ) → Cell → Cell → Cell
+storedByAxis f a b = record { grid = a .grid; z = f (a .z) (b .z); y = f (a .y) (b .y); x = f (a .x) (b .x) }
+
 -- The stored form of a cell.
 abbrev pub stored : CellId → Cell
 stored c = record { grid = c .grid; z = biased (c .coord .z); y = biased (c .coord .y); x = biased (c .coord .x) }

@@ -1,10 +1,10 @@
 // Cells: their coordinates, order, range and stored form, and which touch and surround one another.
 ghost use mathlib.Core.Path.{_≡_};
 ghost use mathlib.Core.Bool.{true};
-ghost use Prim.Native.Nat.{_<_, _≤_};
+ghost use Prim.Native.Nat.{_<_, _≤_, min, max};
 ghost use Rattle.component.specs.Order.{same, below};
 ghost use Rattle.component.specs.Coord.{minZ, maxZ, byAxis, axisIn, coordInRange};
-ghost use Rattle.component.specs.Stored.{biased, unbiased, stored, coordOf, cellId};
+ghost use Rattle.component.specs.Stored.{biased, unbiased, storedWord, signedWord, storedByAxis, stored, coordOf, cellId};
 ghost use Rattle.component.specs.Range.{axisInRange, cellInRange};
 ghost use Rattle.component.specs.Touch.{close, touches};
 ghost use Rattle.component.specs.Around.{stepN, neighbourAt, neighbourCount};
@@ -104,11 +104,49 @@ pub fn comes_before(a: Cell, b: Cell) -> bool
     a.x < b.x
 }
 
+// A cell: its grid, and its place there.
+pub struct CellId {
+    pub grid: u64,
+    pub coord: CellCoord,
+}
+
+// The stored form of a coordinate.
+pub fn bias(n: i32) -> u64
+    ensures { λ r. ⌜ r ≡ biased n ⌝ }
+{
+    (n as i64 + 2_147_483_648) as u64
+}
+
+// The coordinate that a stored word stands for.
+pub fn unbias(n: u64) -> i32
+    ensures { λ r. ⌜ r ≡ unbiased n ⌝ }
+{
+    ((n % 4_294_967_296) as i64 - 2_147_483_648) as i32
+}
+
+// The stored form of a coordinate that a 64-bit word of two's complement gives.
+pub fn stored_word(n: u64) -> u64
+    ensures { λ r. ⌜ r ≡ storedWord n ⌝ }
+{
+    std::num::wrapping_add_u64(n, 2_147_483_648)
+}
+
+// A stored coordinate as a 64-bit word of two's complement.
+pub fn signed_word(n: u64) -> u64
+    ensures { λ r. ⌜ r ≡ signedWord n ⌝ }
+{
+    if n < 2_147_483_648 {
+        n + 18_446_744_071_562_067_968
+    } else {
+        n - 2_147_483_648
+    }
+}
+
 // Whether a stored coordinate is that of a coordinate from MIN to MAX.
 fn stored_axis_in(n: u64) -> bool
     ensures { λ r. ⌜ r ≡ axisInRange n ⌝ }
 {
-    (1_147_483_648 <= n) & (n <= 3_147_483_648)
+    (bias(CellCoord::MIN) <= n) & (n <= bias(CellCoord::MAX))
 }
 
 // Whether each coordinate of a stored cell is that of a coordinate from MIN to MAX.
@@ -118,24 +156,44 @@ pub fn stored_in_range(c: Cell) -> bool
     stored_axis_in(c.x) & (stored_axis_in(c.y) & stored_axis_in(c.z))
 }
 
-// A cell: its grid, and its place there.
-pub struct CellId {
-    pub grid: u64,
-    pub coord: CellCoord,
+// The smaller of two words.
+fn lesser_word(a: u64, b: u64) -> u64
+    ensures { λ r. ⌜ r ≡ min a b ⌝ }
+{
+    if a < b { a } else { b }
 }
 
-// The stored form of a coordinate.
-fn bias(n: i32) -> u64
-    ensures { λ r. ⌜ r ≡ biased n ⌝ }
+// The larger of two words.
+fn greater_word(a: u64, b: u64) -> u64
+    ensures { λ r. ⌜ r ≡ max a b ⌝ }
 {
-    (n as i64 + 2_147_483_648) as u64
+    if a < b { b } else { a }
 }
 
-// The coordinate that a stored word stands for.
-fn unbias(n: u64) -> i32
-    ensures { λ r. ⌜ r ≡ unbiased n ⌝ }
-{
-    ((n % 4_294_967_296) as i64 - 2_147_483_648) as i32
+impl Cell {
+    // The cell of a's grid with the smaller of the two on each axis: `CellCoord::min` in stored form.
+    pub fn min(a: Cell, b: Cell) -> Cell
+        ensures { λ r. ⌜ r ≡ storedByAxis min a b ⌝ }
+    {
+        Cell {
+            grid: a.grid,
+            z: lesser_word(a.z, b.z),
+            y: lesser_word(a.y, b.y),
+            x: lesser_word(a.x, b.x),
+        }
+    }
+
+    // The cell of a's grid with the larger of the two on each axis: `CellCoord::max` in stored form.
+    pub fn max(a: Cell, b: Cell) -> Cell
+        ensures { λ r. ⌜ r ≡ storedByAxis max a b ⌝ }
+    {
+        Cell {
+            grid: a.grid,
+            z: greater_word(a.z, b.z),
+            y: greater_word(a.y, b.y),
+            x: greater_word(a.x, b.x),
+        }
+    }
 }
 
 // The stored form of a cell.

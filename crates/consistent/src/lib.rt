@@ -1,31 +1,33 @@
 // Whether the words of a lent state are consistent: the eight points of consistency, in their order.
-use layout::CELLS;
-use layout::EMPTIED;
-use layout::ENTITIES;
-use layout::GROUPS;
-use layout::IDS;
-use layout::OCCUPIED;
-use layout::STATE_LEN;
-use scans::all_held;
-use scans::cells_in_range;
-use scans::ids_below;
-use scans::same_cells;
-use scans::same_words;
-use scans::stood_in;
-use table::is_table1;
-use table::is_table4;
+use layout::CELL_COUNT;
+use layout::EMPTIED_COUNT;
+use layout::ENTITY_COUNT;
+use layout::GROUP_COUNT;
+use layout::ID_COUNT;
+use layout::NEXT_ID;
+use layout::OCCUPIED_COUNT;
+use layout::cell_words;
+use layout::count_at;
+use layout::emptied_words;
+use layout::entity_words;
+use layout::group_words;
+use layout::id_words;
+use layout::occupied_words;
+use layout::spare_words;
 ghost use mathlib.Core.Path.{_≡_};
 ghost use mathlib.Core.Bool.{true, _&&_};
-ghost use Rattle.layout.specs.Points.{longEnough, point1, point2, point3, point4, point5, point6, point7, point8, consistentWords};
+ghost use Rattle.layout.specs.Points.{longEnough, point1, point2, point3, point4, point5, point6, point7, point8, consistentWords, firstBroken};
 
 // 1. Whether the entities are distinct, they and the occupied cells within number.
 fn entities_within(state: &[u64]) -> bool
     requires { ⌜ longEnough (now state) ≡ true ⌝ }
     ensures { λ r. ⌜ r ≡ point1 (now (state .entry)) ⌝ }
 {
-    let ents = &state[ENTITIES..CELLS];
-    let n = state[0];
-    (state[7] == 0) & ((n <= 4096) & ((state[1] <= 1024) & is_table1(ents, 5, n as usize)))
+    let spare = spare_words(state);
+    let ents = entity_words(state);
+    let n = count_at(state, ENTITY_COUNT);
+    let m = count_at(state, CELL_COUNT);
+    points_check::entities_right(spare, ents, n, m)
 }
 
 // 2. Whether the cells with an id, each held once, are exactly those an entity stands in, and so are the occupied cells.
@@ -33,23 +35,13 @@ fn cells_exact(state: &[u64]) -> bool
     requires { ⌜ (longEnough (now state) ≡ true) × (point1 (now state) ≡ true) ⌝ }
     ensures { λ r. ⌜ r ≡ point2 (now (state .entry)) ⌝ }
 {
-    let ents = &state[ENTITIES..CELLS];
-    let cells = &state[CELLS..OCCUPIED];
-    let ids = &state[IDS..GROUPS];
-    let m = state[1] as usize;
-    if state[1] != state[4] {
-        return false;
-    }
-    if !is_table4(cells, 5, m) {
-        return false;
-    }
-    if !is_table4(ids, 5, m) {
-        return false;
-    }
-    if !same_cells(cells, ids, m) {
-        return false;
-    }
-    stood_in(ents, state[0] as usize, cells, m)
+    let ents = entity_words(state);
+    let n = count_at(state, ENTITY_COUNT);
+    let cells = cell_words(state);
+    let m = count_at(state, CELL_COUNT);
+    let ids = id_words(state);
+    let k = count_at(state, ID_COUNT);
+    points_check::cells_right(ents, n, cells, m, ids, k)
 }
 
 // 3. Whether each mask has exactly the bits of touching occupied cells.
@@ -57,8 +49,9 @@ fn masks_exact(state: &[u64]) -> bool
     requires { ⌜ (longEnough (now state) ≡ true) × (point2 (now state) ≡ true) ⌝ }
     ensures { λ r. ⌜ r ≡ point3 (now (state .entry)) ⌝ }
 {
-    let cells = &state[CELLS..OCCUPIED];
-    masks_check::masks_right(cells, state[1] as usize)
+    let cells = cell_words(state);
+    let m = count_at(state, CELL_COUNT);
+    masks_check::masks_right(cells, m)
 }
 
 // 4. Whether ids are shared exactly by joined cells.
@@ -66,9 +59,10 @@ fn ids_shared(state: &[u64]) -> bool
     requires { ⌜ (longEnough (now state) ≡ true) × (point2 (now state) ≡ true) × (point3 (now state) ≡ true) ⌝ }
     ensures { λ r. ⌜ r ≡ point4 (now (state .entry)) ⌝ }
 {
-    let cells = &state[CELLS..OCCUPIED];
-    let ids = &state[IDS..GROUPS];
-    parts_check::parts_right(cells, ids, state[1] as usize)
+    let cells = cell_words(state);
+    let m = count_at(state, CELL_COUNT);
+    let ids = id_words(state);
+    parts_check::parts_right(cells, ids, m)
 }
 
 // 5. Whether there is one group record for each id that a cell has and no other, its grid, corners and counts exact.
@@ -76,14 +70,11 @@ fn records_exact(state: &[u64]) -> bool
     requires { ⌜ (longEnough (now state) ≡ true) × (point2 (now state) ≡ true) ⌝ }
     ensures { λ r. ⌜ r ≡ point5 (now (state .entry)) ⌝ }
 {
-    let ids = &state[IDS..GROUPS];
-    let groups = &state[GROUPS..STATE_LEN];
-    let mut built = [0u64; 9216];
-    let k = partition::build_records(ids, state[4] as usize, &mut built);
-    if k != state[5] as usize {
-        return false;
-    }
-    same_words(&built, groups)
+    let ids = id_words(state);
+    let k = count_at(state, ID_COUNT);
+    let groups = group_words(state);
+    let g = count_at(state, GROUP_COUNT);
+    points_check::records_right(ids, k, groups, g)
 }
 
 // 6. Whether every id is below the next id.
@@ -91,8 +82,9 @@ fn ids_below_next(state: &[u64]) -> bool
     requires { ⌜ (longEnough (now state) ≡ true) × (point2 (now state) ≡ true) ⌝ }
     ensures { λ r. ⌜ r ≡ point6 (now (state .entry)) ⌝ }
 {
-    let ids = &state[IDS..GROUPS];
-    ids_below(ids, state[4] as usize, state[6])
+    let ids = id_words(state);
+    let k = count_at(state, ID_COUNT);
+    points_check::ids_below(ids, k, state[NEXT_ID])
 }
 
 // 7. Whether the coordinates are in range.
@@ -100,18 +92,13 @@ fn coordinates_in_range(state: &[u64]) -> bool
     requires { ⌜ (longEnough (now state) ≡ true) × (point1 (now state) ≡ true) ⌝ }
     ensures { λ r. ⌜ r ≡ point7 (now (state .entry)) ⌝ }
 {
-    let ents = &state[ENTITIES..CELLS];
-    let occupied = &state[OCCUPIED..EMPTIED];
-    let emptied = &state[EMPTIED..IDS];
-    if 1024 < state[2] {
-        return false;
-    }
-    if 1024 < state[3] {
-        return false;
-    }
-    cells_in_range(ents, 5, 1, state[0] as usize)
-        & (cells_in_range(occupied, 4, 0, state[2] as usize)
-            & cells_in_range(emptied, 4, 0, state[3] as usize))
+    let ents = entity_words(state);
+    let n = count_at(state, ENTITY_COUNT);
+    let occ = occupied_words(state);
+    let k = count_at(state, OCCUPIED_COUNT);
+    let emp = emptied_words(state);
+    let l = count_at(state, EMPTIED_COUNT);
+    points_check::coordinates_right(ents, n, occ, k, emp, l)
 }
 
 // 8. Whether both net lists ascend strictly, have at most 1,024 cells each, the first occupied, the second not.
@@ -119,48 +106,53 @@ fn nets_in_order(state: &[u64]) -> bool
     requires { ⌜ (longEnough (now state) ≡ true) × (point2 (now state) ≡ true) ⌝ }
     ensures { λ r. ⌜ r ≡ point8 (now (state .entry)) ⌝ }
 {
-    let cells = &state[CELLS..OCCUPIED];
-    let occupied = &state[OCCUPIED..EMPTIED];
-    let emptied = &state[EMPTIED..IDS];
-    let m = state[1] as usize;
-    let k = state[2] as usize;
-    let l = state[3] as usize;
-    if !is_table4(occupied, 4, k) {
-        return false;
-    }
-    if !is_table4(emptied, 4, l) {
-        return false;
-    }
-    all_held(occupied, k, cells, m, true) & all_held(emptied, l, cells, m, false)
+    let cells = cell_words(state);
+    let m = count_at(state, CELL_COUNT);
+    let occ = occupied_words(state);
+    let k = count_at(state, OCCUPIED_COUNT);
+    let emp = emptied_words(state);
+    let l = count_at(state, EMPTIED_COUNT);
+    points_check::nets_right(cells, m, occ, k, emp, l)
 }
 
-// Whether the words of a state are consistent: the points in their order, up to the first that is broken.
+// The first broken point, 1 to 8; 0 where none is.
+fn first_broken(state: &[u64]) -> u64
+    requires { ⌜ longEnough (now state) ≡ true ⌝ }
+    ensures { λ r. ⌜ r ≡ firstBroken (now (state .entry)) ⌝ }
+{
+    if !entities_within(state) {
+        return 1;
+    }
+    if !cells_exact(state) {
+        return 2;
+    }
+    if !masks_exact(state) {
+        return 3;
+    }
+    if !ids_shared(state) {
+        return 4;
+    }
+    if !records_exact(state) {
+        return 5;
+    }
+    if !ids_below_next(state) {
+        return 6;
+    }
+    if !coordinates_in_range(state) {
+        return 7;
+    }
+    if !nets_in_order(state) {
+        return 8;
+    }
+    0
+}
+
+// Whether the words of a state are consistent: long enough, and no point broken.
 pub fn consistent(state: &[u64]) -> bool
     ensures { λ r. ⌜ r ≡ (longEnough (now (state .entry)) && consistentWords (now (state .entry))) ⌝ }
 {
     if state.len() < layout::state_len() {
         return false;
     }
-    if !entities_within(state) {
-        return false;
-    }
-    if !cells_exact(state) {
-        return false;
-    }
-    if !masks_exact(state) {
-        return false;
-    }
-    if !ids_shared(state) {
-        return false;
-    }
-    if !records_exact(state) {
-        return false;
-    }
-    if !ids_below_next(state) {
-        return false;
-    }
-    if !coordinates_in_range(state) {
-        return false;
-    }
-    nets_in_order(state)
+    first_broken(state) == 0
 }

@@ -1,7 +1,9 @@
 -- What `fresh` answers and leaves.
 use Prim.Native.Nat.{ℕ}
-use mathlib.Core.Bool.{cond, not}
+use mathlib.Core.Path.{_≡_}
+use mathlib.Core.Bool.{Bool, cond, not, _&&_}
 use mathlib.Core.List.{List, _++_}
+use lib.Dec.{eqb}
 use lib.ListN.{drop}
 use Rattle.model.specs.Update.{fewIds, fresh}
 use Rattle.layout.specs.State.{stateLen, encode}
@@ -14,3 +16,9 @@ freshOf w first =
     cond (not (longEnough w)) (1, w)
     (cond (fewIds first) (5, w)
     (0, encode (fresh first) ++ drop stateLen w))
+
+-- A number is 1, 5 or 0 exactly when the tests say so: whether the words are long enough, and too few ids are left.
+pub record Exactly (n : ℕ) (long few : Bool) : Type 0 where
+  pub one : eqb n 1 ≡ not long
+  pub five : eqb n 5 ≡ (long && few)
+  pub done : eqb n 0 ≡ (long && not few)

@@ -1,4 +1,6 @@
 // A fresh state.
+use layout::MOST_NEXT_ID;
+use layout::NEXT_ID;
 use layout::state_len;
 use table::write_zeros;
 ghost use mathlib.Core.Path.{_≡_};
@@ -12,10 +14,10 @@ pub fn fresh(state: &mut [u64], first_id: u64) -> u64
     if state.len() < n {
         return 1;
     }
-    if first_id > 18446744073709549567 {
+    if first_id > MOST_NEXT_ID {
         return 5;
     }
     write_zeros(state, 0, n);
-    state[6] = first_id;
+    state[NEXT_ID] = first_id;
     0
 }

@@ -4,13 +4,14 @@ use mathlib.Core.Path.{_≡_}
 use mathlib.Core.Bool.{true}
 use mathlib.Core.List.{List, [], List·Memᴰ as Mem}
 use lib.Dec.{leb}
-use lib.ListN.{length, drop, getD, replicate}
+use lib.ListN.{length, drop, replicate}
 use Rattle.model.specs.Cells.{touch26}
 use Rattle.model.specs.Update.{State, mostEntities, mostCells}
 use Rattle.model.specs.Consistent.{consistent}
 use Rattle.table.specs.Rows.{areZero}
+use Rattle.layout.specs.Widths.{entityWidth, cellWidth, netWidth, idWidth, groupWidth}
 use Rattle.layout.specs.Rows.{entitiesImage, cellsImage, netImage, idsImage, groupsImage}
-use Rattle.layout.specs.State.{entitiesLen, cellsLen, netLen, idsLen, groupsLen, decode, entityWords, cellWords, occupiedWords, emptiedWords, idWords, groupWords, entityCount, cellCount, occupiedCount, emptiedCount, idCount, groupCount, nextId}
+use Rattle.layout.specs.State.{entitiesLen, cellsLen, netLen, idsLen, groupsLen, decode, spareWords, entityWords, cellWords, occupiedWords, emptiedWords, idWords, groupWords, entityCount, cellCount, occupiedCount, emptiedCount, idCount, groupCount, nextId}
 use Rattle.layout.specs.Points.{tidy}
 
 -- From the place f on the list w is r.
@@ -50,7 +51,7 @@ pub record Fits (s : State) : Type 0 where
   pub groups : length (s .records) ≤ mostCells
 
 -- The words w begin with the image of the state s.
-pub record Stands (s : State) (w : List ℕ) : Type 0 where
+pub record BeginsWith (s : State) (w : List ℕ) : Type 0 where
   pub entity-count : entityCount w ≡ length (s .occupancy .entities)
   pub cell-count : cellCount w ≡ length (s .occupancy .masks)
   pub occupied-count : occupiedCount w ≡ length (s .occupancy .newlyOccupied)
@@ -58,7 +59,7 @@ pub record Stands (s : State) (w : List ℕ) : Type 0 where
   pub id-count : idCount w ≡ length (s .groups .ids)
   pub group-count : groupCount w ≡ length (s .records)
   pub next-id : nextId w ≡ s .groups .next
-  pub last-zero : getD w 7 0 ≡ 0
+  pub spare-zero : areZero (spareWords w) ≡ true
   pub entity-words : entityWords w ≡ entitiesImage entitiesLen (s .occupancy .entities)
   pub cell-words : cellWords w ≡ cellsImage cellsLen (s .occupancy .masks)
   pub occupied-words : occupiedWords w ≡ netImage netLen (s .occupancy .newlyOccupied)
@@ -68,12 +69,12 @@ pub record Stands (s : State) (w : List ℕ) : Type 0 where
 
 -- What consistent words are, as facts.
 pub record Orderly (w : List ℕ) : Type 0 where
-  pub last : getD w 7 0 ≡ 0
-  pub entity-rows : tidy 5 mostEntities (entityCount w) (entityWords w) ≡ true
+  pub spare-zero : areZero (spareWords w) ≡ true
+  pub entity-rows : tidy entityWidth mostEntities (entityCount w) (entityWords w) ≡ true
   pub cell-few : leb (cellCount w) mostCells ≡ true
-  pub cell-rows : tidy 5 mostCells (cellCount w) (cellWords w) ≡ true
-  pub id-rows : tidy 5 mostCells (idCount w) (idWords w) ≡ true
-  pub group-rows : tidy 9 mostCells (groupCount w) (groupWords w) ≡ true
-  pub occupied-rows : tidy 4 mostCells (occupiedCount w) (occupiedWords w) ≡ true
-  pub emptied-rows : tidy 4 mostCells (emptiedCount w) (emptiedWords w) ≡ true
+  pub cell-rows : tidy cellWidth mostCells (cellCount w) (cellWords w) ≡ true
+  pub id-rows : tidy idWidth mostCells (idCount w) (idWords w) ≡ true
+  pub group-rows : tidy groupWidth mostCells (groupCount w) (groupWords w) ≡ true
+  pub occupied-rows : tidy netWidth mostCells (occupiedCount w) (occupiedWords w) ≡ true
+  pub emptied-rows : tidy netWidth mostCells (emptiedCount w) (emptiedWords w) ≡ true
   pub yard : consistent touch26 (decode w) ≡ true

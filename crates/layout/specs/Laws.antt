@@ -7,3 +7,4 @@ pub mod Parts
 pub mod Fitting
 pub mod Standing
 pub mod Orderly
+pub mod Cut

@@ -1,3 +1,4 @@
+pub mod Widths
 pub mod Rows
 pub mod State
 pub mod Points

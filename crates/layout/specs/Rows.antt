@@ -9,6 +9,7 @@ use Rattle.model.specs.Lists.{each, keys}
 use Rattle.model.specs.Places.{slot}
 use Rattle.model.specs.Cells.{Cell}
 use Rattle.model.specs.Groups.{Corner, Group}
+use Rattle.layout.specs.Widths.{entityWidth, cellWidth, netWidth, idWidth, groupWidth}
 use Rattle.table.specs.Rows.{cellAt, cellWords, table1, table4, image1, image4}
 
 -- An entity's row: the entity, then the words of the cell where it stands; 5 words.
@@ -74,16 +75,16 @@ groupsImage len t = image1 len (each groupRow t)
 
 -- The tables that words stand for, n rows of them.
 unfoldable pub entitiesIn : ℕ → List ℕ → List (ℕ × Cell)
-entitiesIn n s = each entityOf (table1 5 n s)
+entitiesIn n s = each entityOf (table1 entityWidth n s)
 
 unfoldable pub cellsIn : ℕ → List ℕ → List (Cell × ℕ)
-cellsIn n s = each idOf (table4 5 n s)
+cellsIn n s = each idOf (table4 cellWidth n s)
 
 unfoldable pub netIn : ℕ → List ℕ → List Cell
-netIn n s = keys (table4 4 n s)
+netIn n s = keys (table4 netWidth n s)
 
 unfoldable pub idsIn : ℕ → List ℕ → List (Cell × ℕ)
-idsIn n s = each idOf (table4 5 n s)
+idsIn n s = each idOf (table4 idWidth n s)
 
 unfoldable pub groupsIn : ℕ → List ℕ → List (ℕ × Group)
-groupsIn n s = each groupOf (table1 9 n s)
+groupsIn n s = each groupOf (table1 groupWidth n s)

@@ -1,9 +1,10 @@
 -- The state in words: a header, then the tables one after the other.
-use Prim.Native.Nat.{ℕ}
-use mathlib.Core.List.{List, [], _∷_, _++_}
-use lib.ListN.{length, getD}
+use Prim.Native.Nat.{ℕ, _-_}
+use mathlib.Core.List.{List, _∷_, _++_}
+use lib.ListN.{length, getD, replicate}
 use lib.Seq.{slice}
 use Rattle.model.specs.Update.{State}
+use Rattle.layout.specs.Widths.{headerLen, nextIdAt, spare}
 use Rattle.layout.specs.Rows.{entitiesImage, cellsImage, netImage, idsImage, groupsImage, entitiesIn, cellsIn, netIn, idsIn, groupsIn}
 
 -- 4,096 entities of 5 words.
@@ -28,32 +29,32 @@ groupsLen = 9216
 
 -- Where each table begins, and where the state ends.
 unfoldable pub entitiesFrom : ℕ
-entitiesFrom = 8
+entitiesFrom = 16
 
 unfoldable pub cellsFrom : ℕ
-cellsFrom = 20488
+cellsFrom = 20496
 
 unfoldable pub occupiedFrom : ℕ
-occupiedFrom = 25608
+occupiedFrom = 25616
 
 unfoldable pub emptiedFrom : ℕ
-emptiedFrom = 29704
+emptiedFrom = 29712
 
 unfoldable pub idsFrom : ℕ
-idsFrom = 33800
+idsFrom = 33808
 
 unfoldable pub groupsFrom : ℕ
-groupsFrom = 38920
+groupsFrom = 38928
 
 unfoldable pub stateLen : ℕ
-stateLen = 48136
+stateLen = 48144
 
--- The header of a state.
+-- The header of a state: how many rows each table has, the next id, zeros.
 abbrev pub header : State → List ℕ
 header s =
     length (s .occupancy .entities) ∷ length (s .occupancy .masks)
     ∷ length (s .occupancy .newlyOccupied) ∷ length (s .occupancy .newlyEmptied)
-    ∷ length (s .groups .ids) ∷ length (s .records) ∷ s .groups .next ∷ 0 ∷ []
+    ∷ length (s .groups .ids) ∷ length (s .records) ∷ s .groups .next ∷ replicate (headerLen - spare) 0
 
 -- The one image of a state.
 unfoldable pub encode : State → List ℕ
@@ -85,7 +86,11 @@ idWords w = slice idsFrom groupsFrom w
 abbrev pub groupWords : List ℕ → List ℕ
 groupWords w = slice groupsFrom stateLen w
 
--- The words of the header.
+-- The words of the header that have no name.
+abbrev pub spareWords : List ℕ → List ℕ
+spareWords w = slice spare entitiesFrom w
+
+-- The words of the header that have one.
 abbrev pub entityCount : List ℕ → ℕ
 entityCount w = getD w 0 0
 
@@ -105,7 +110,7 @@ abbrev pub groupCount : List ℕ → ℕ
 groupCount w = getD w 5 0
 
 abbrev pub nextId : List ℕ → ℕ
-nextId w = getD w 6 0
+nextId w = getD w nextIdAt 0
 
 -- The state that words stand for.
 unfoldable pub decode : List ℕ → State

@@ -9,17 +9,14 @@ use native.Mathlib.Omega.{arith}
 use Rattle.model.specs.Lists.{has, keys, put, dropKey, change}
 use Rattle.model.specs.Cells.{Cell, same, below, touch26}
 use Rattle.model.specs.Occupancy.{Occupancy, openCell, closeCell}
+use Rattle.layout.specs.Widths.{cellWidth, netWidth}
 use Rattle.layout.specs.Rows.{neighbourOf}
 use Rattle.table.specs.Rows.{cell, key4, table4, stored4, isTable4, hasRoom4}
 use Rattle.table.specs.Laws.Next.{room-space}
 use Rattle.map.specs.declared.Counts.{Counts}
-use Rattle.map.specs.Told.{Shows, told, noted}
+use Rattle.map.specs.Told.{TableIs, told, noted}
 use Rattle.map.specs.Held.{Stored, Opens, Closes}
 use Rattle.map.specs.Laws.Shown.{Shown, shown-stored, stored-shown, occupied-room, open-masks, drop-masks, close-masks, nets-crossed}
-
--- What a put asks, of a row whose length is known.
-pub put-asks : (w m : ℕ) (s row : List ℕ) → length row ≡ w → isTable4 w m s ≡ true → w * suc m ≤ length s → (isTable4 (length row) m s ≡ true) × (hasRoom4 (length row) m s (key4 row) ≡ true)
-put-asks w m s row e t h = (ap (λ (k : ℕ). isTable4 k m s) e ∙ t, ap (λ (k : ℕ). hasRoom4 k m s (key4 row)) e ∙ room-space cell w m s (key4 row) h)
 
 module _ (cells occ emp : List ℕ) (n : Counts) (c : Cell) (o : Occupancy) where
   module _ (h : Opens cells occ emp n c o) where
@@ -29,11 +26,11 @@ module _ (cells occ emp : List ℕ) (n : Counts) (c : Cell) (o : Occupancy) wher
 
     -- The cell is open.
     pub opened-stored : (told-cells cells′ occ′ emp′ : List ℕ) (len w : ℕ) (r : Counts)
-        → w ≡ noted (keys (table4 5 (n .cells) cells)) (neighbourOf c) 26
-        → Shows cell 5 (n .cells) told-cells (change (told true (neighbourOf c) 26) (table4 5 (n .cells) cells))
-        → (r .cells, cells′) ≡ stored4 len (put below c (w ∷ []) (table4 5 (n .cells) told-cells))
-        → (Shows cell 4 (r .emptied) emp′ (dropKey same c (table4 4 (n .emptied) emp)))
-        × (Shows cell 4 (r .occupied) occ′ (cond (has same (keys (table4 4 (n .emptied) emp)) c) (table4 4 (n .occupied) occ) (put below c [] (table4 4 (n .occupied) occ))))
+        → w ≡ noted (keys (table4 cellWidth (n .cells) cells)) (neighbourOf c) 26
+        → TableIs cell cellWidth (n .cells) told-cells (change (told true (neighbourOf c) 26) (table4 cellWidth (n .cells) cells))
+        → (r .cells, cells′) ≡ stored4 len (put below c (w ∷ []) (table4 cellWidth (n .cells) told-cells))
+        → (TableIs cell netWidth (r .emptied) emp′ (dropKey same c (table4 netWidth (n .emptied) emp)))
+        × (TableIs cell netWidth (r .occupied) occ′ (cond (has same (keys (table4 netWidth (n .emptied) emp)) c) (table4 netWidth (n .occupied) occ) (put below c [] (table4 netWidth (n .occupied) occ))))
         → Stored cells′ occ′ emp′ r (openCell touch26 c o)
     opened-stored told-cells cells′ occ′ emp′ len w r e t q x =
         let y = opens-shown in
@@ -51,15 +48,15 @@ module _ (cells occ emp : List ℕ) (n : Counts) (c : Cell) (o : Occupancy) wher
     closes-shown = stored-shown o (h .placed) cells occ emp n (h .stored)
 
     -- The row is gone.
-    pub closes-gone : (gone : List ℕ) (len k : ℕ) → (k, gone) ≡ stored4 len (dropKey same c (table4 5 (n .cells) cells)) → isTable4 5 k gone ≡ true
+    pub closes-gone : (gone : List ℕ) (len k : ℕ) → (k, gone) ≡ stored4 len (dropKey same c (table4 cellWidth (n .cells) cells)) → isTable4 cellWidth k gone ≡ true
     closes-gone gone len k q = drop-masks o (h .placed) c (n .cells) cells (closes-shown .masks) gone len k q .table
 
     -- The cell is closed.
     pub closed-stored : (gone cells′ occ′ emp′ : List ℕ) (len : ℕ) (r : Counts)
-        → (r .cells, gone) ≡ stored4 len (dropKey same c (table4 5 (n .cells) cells))
-        → Shows cell 5 (r .cells) cells′ (change (told false (neighbourOf c) 26) (table4 5 (r .cells) gone))
-        → (Shows cell 4 (r .occupied) occ′ (dropKey same c (table4 4 (n .occupied) occ)))
-        × (Shows cell 4 (r .emptied) emp′ (cond (has same (keys (table4 4 (n .occupied) occ)) c) (table4 4 (n .emptied) emp) (put below c [] (table4 4 (n .emptied) emp))))
+        → (r .cells, gone) ≡ stored4 len (dropKey same c (table4 cellWidth (n .cells) cells))
+        → TableIs cell cellWidth (r .cells) cells′ (change (told false (neighbourOf c) 26) (table4 cellWidth (r .cells) gone))
+        → (TableIs cell netWidth (r .occupied) occ′ (dropKey same c (table4 netWidth (n .occupied) occ)))
+        × (TableIs cell netWidth (r .emptied) emp′ (cond (has same (keys (table4 netWidth (n .occupied) occ)) c) (table4 netWidth (n .emptied) emp) (put below c [] (table4 netWidth (n .emptied) emp))))
         → Stored cells′ occ′ emp′ r (closeCell touch26 c o)
     closed-stored gone cells′ occ′ emp′ len r q t x =
         let y = closes-shown in

@@ -5,6 +5,3 @@ pub mod Passing
 pub mod Moving
 pub mod Playing
 pub mod Tallying
-pub mod Following
-pub mod Spreading
-pub mod Wave

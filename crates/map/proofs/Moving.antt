@@ -14,13 +14,14 @@ use Rattle.model.specs.Laws.Members.{each-length, keep-shorter}
 use Rattle.model.specs.Laws.Sorted.{Asc}
 use Rattle.model.specs.Laws.Tables.{keys-length, free-of, get-drop-self, put-length-new, put-length-old, drop-length}
 use Rattle.model.specs.Laws.Occupied.{occupied-leave}
+use Rattle.layout.specs.Widths.{entityWidth}
 use Rattle.layout.specs.Rows.{entityRow, entitiesImage}
 use Rattle.layout.specs.Laws.Rows.{entities-wide}
 use Rattle.table.specs.Rows.{number, cellWords, table1, stored1, hasRoom1}
 use Rattle.table.specs.Laws.Kinds.{number-lawful}
 use Rattle.table.specs.Laws.Next.{room-space, put-next, drop-next}
 use Rattle.map.specs.declared.Counts.{Counts}
-use Rattle.map.specs.Told.{Shows}
+use Rattle.map.specs.Told.{TableIs}
 use Rattle.map.specs.Held.{Held, Peopled, Enters, EntersCell, Leaves, LeavesCell, Moves}
 use Rattle.map.specs.Laws.Each.{keys-each, put-each, drop-each, image-shows, shows-image, shows-count, shows-fit}
 use Rattle.map.specs.Laws.Crowd.{put-over}
@@ -36,14 +37,14 @@ peopled-but cells crowd occ emp n a o h =
     record { crowd-is = h .crowd-is; crowd-fit = h .crowd-fit; stored = stored-but cells occ emp n a (o .entities) o (h .stored); placed = h .placed }
 
 -- With words that show the entities, the tables of cells hold the map.
-hold : (ents cells crowd occ emp : List ℕ) (r : Counts) (a : ℕ) (o : Occupancy) → Shows number 5 a ents (each entityRow (o .entities)) → r .entities ≡ a → Peopled cells crowd occ emp r o
+hold : (ents cells crowd occ emp : List ℕ) (r : Counts) (a : ℕ) (o : Occupancy) → TableIs number entityWidth a ents (each entityRow (o .entities)) → r .entities ≡ a → Peopled cells crowd occ emp r o
     → Held ents cells crowd occ emp r o
 unfolding entitiesImage
 hold ents cells crowd occ emp r a o x f h =
     record {
-      entities-is = shows-image number number-lawful 5 a ents (each entityRow (o .entities)) x;
-      entities-count = f ∙ shows-count number number-lawful 5 a ents (each entityRow (o .entities)) x ∙ each-length entityRow (o .entities);
-      entities-fit = omega (arith, shows-fit number number-lawful 5 a ents (each entityRow (o .entities)) x);
+      entities-is = shows-image number number-lawful entityWidth a ents (each entityRow (o .entities)) x;
+      entities-count = f ∙ shows-count number number-lawful entityWidth a ents (each entityRow (o .entities)) x ∙ each-length entityRow (o .entities);
+      entities-fit = omega (arith, shows-fit number number-lawful entityWidth a ents (each entityRow (o .entities)) x);
       crowd-is = h .crowd-is;
       crowd-fit = h .crowd-fit;
       stored = h .stored;
@@ -55,35 +56,35 @@ module _ (ents cells crowd occ emp : List ℕ) (n : Counts) (o : Occupancy) (h :
   peopled-of = record { crowd-is = h .crowd-is; crowd-fit = h .crowd-fit; stored = h .stored; placed = h .placed }
 
   -- The words show the entities.
-  pub ents-shows : Shows number 5 (n .entities) ents (each entityRow (o .entities))
+  pub ents-shows : TableIs number entityWidth (n .entities) ents (each entityRow (o .entities))
   unfolding entitiesImage
   ents-shows =
-      image-shows number number-lawful 5 (n .entities) ents (each entityRow (o .entities)) (h .entities-is) (h .entities-count ∙ sym (each-length entityRow (o .entities))) (omega arith)
+      image-shows number number-lawful entityWidth (n .entities) ents (each entityRow (o .entities)) (h .entities-is) (h .entities-count ∙ sym (each-length entityRow (o .entities))) (omega arith)
       (entities-wide (o .entities)) (subst (Asc ltb) (sym (keys-each stood (o .entities))) (h .placed .sound .asc))
 
   module _ (e : ℕ) (ents′ : List ℕ) (a : ℕ) where
     -- They show them after the row of e says c.
-    ents-put : (c : Cell) → (a, ents′) ≡ stored1 (length ents) (put ltb e (cellWords c) (table1 5 (n .entities) ents)) → Shows number 5 a ents′ (each entityRow (put ltb e c (o .entities)))
+    ents-put : (c : Cell) → (a, ents′) ≡ stored1 (length ents) (put ltb e (cellWords c) (table1 entityWidth (n .entities) ents)) → TableIs number entityWidth a ents′ (each entityRow (put ltb e c (o .entities)))
     ents-put c p =
         let s = ents-shows in
-        let y = put-next number 5 number-lawful (n .entities) ents (s .table) (length ents) a ents′ e (cellWords c) refl p in
+        let y = put-next number entityWidth number-lawful (n .entities) ents (s .table) (length ents) a ents′ e (cellWords c) refl p in
         record { table = y .0; is = y .1 ∙ ap (put ltb e (cellWords c)) (s .is) ∙ put-each stood ltb e c (o .entities) }
 
     -- And after the row of e is gone.
-    ents-gone : (a, ents′) ≡ stored1 (length ents) (dropKey eqb e (table1 5 (n .entities) ents)) → Shows number 5 a ents′ (each entityRow (dropKey eqb e (o .entities)))
+    ents-gone : (a, ents′) ≡ stored1 (length ents) (dropKey eqb e (table1 entityWidth (n .entities) ents)) → TableIs number entityWidth a ents′ (each entityRow (dropKey eqb e (o .entities)))
     ents-gone p =
         let s = ents-shows in
-        let y = drop-next number 5 number-lawful (n .entities) ents (s .table) (length ents) a ents′ e p in
+        let y = drop-next number entityWidth number-lawful (n .entities) ents (s .table) (length ents) a ents′ e p in
         record { table = y .0; is = y .1 ∙ ap (dropKey eqb e) (s .is) ∙ drop-each stood eqb e (o .entities) }
 
 module _ (ents cells crowd occ emp : List ℕ) (n : Counts) (e : ℕ) (c : Cell) (o : Occupancy) (ents′ : List ℕ) (a : ℕ) where
-  module _ (h : Enters ents cells crowd occ emp n e c o) (p : (a, ents′) ≡ stored1 (length ents) (put ltb e (cellWords c) (table1 5 (n .entities) ents))) where
+  module _ (h : Enters ents cells crowd occ emp n e c o) (p : (a, ents′) ≡ stored1 (length ents) (put ltb e (cellWords c) (table1 entityWidth (n .entities) ents))) where
     -- An entity that is counted can enter its cell.
     pub enters-cell : EntersCell cells crowd occ emp (counting a n) e c o
     enters-cell =
         let x = ents-put ents cells crowd occ emp n o (h .held) e ents′ a c p in
         let l : a ≡ suc (length (o .entities)) =
-        shows-count number number-lawful 5 a ents′ (each entityRow (put ltb e c (o .entities))) x ∙ each-length entityRow (put ltb e c (o .entities))
+        shows-count number number-lawful entityWidth a ents′ (each entityRow (put ltb e c (o .entities))) x ∙ each-length entityRow (put ltb e c (o .entities))
         ∙ put-length-new numbers (o .entities) e c (h .free) in
         record {
           peopled = peopled-but cells crowd occ emp n a o (peopled-of ents cells crowd occ emp n o (h .held));
@@ -106,7 +107,7 @@ module _ (ents cells crowd occ emp : List ℕ) (n : Counts) (e : ℕ) (c : Cell)
     leaves-cell = record { peopled = peopled-but cells crowd occ emp n a o (peopled-of ents cells crowd occ emp n o (h .held)); stands = h .stands; space = h .space }
 
     -- The entity has left.
-    pub left-held : (a, ents′) ≡ stored1 (length ents) (dropKey eqb e (table1 5 (n .entities) ents)) → (cells′ crowd′ occ′ emp′ : List ℕ) (r : Counts) → r .entities ≡ a
+    pub left-held : (a, ents′) ≡ stored1 (length ents) (dropKey eqb e (table1 entityWidth (n .entities) ents)) → (cells′ crowd′ occ′ emp′ : List ℕ) (r : Counts) → r .entities ≡ a
         → Peopled cells′ crowd′ occ′ emp′ r (leave touch26 e c o) → Held ents′ cells′ crowd′ occ′ emp′ r (leave touch26 e c o)
     left-held p cells′ crowd′ occ′ emp′ r f x =
         hold ents′ cells′ crowd′ occ′ emp′ r a (leave touch26 e c o) (ents-gone ents cells crowd occ emp n o (h .held) e ents′ a p) f x
@@ -130,11 +131,11 @@ module _ (o : Occupancy) (e : ℕ) (d : Cell) where
 
 module _ (ents cells crowd occ emp : List ℕ) (n : Counts) (e : ℕ) (d c : Cell) (o : Occupancy) (h : Moves ents cells crowd occ emp n e d c o) where
   -- The words show the entities, and there is room for the row.
-  pub moves-shows : Shows number 5 (n .entities) ents (each entityRow (o .entities))
+  pub moves-shows : TableIs number entityWidth (n .entities) ents (each entityRow (o .entities))
   moves-shows = ents-shows ents cells crowd occ emp n o (h .leaving .held)
 
-  pub moves-room : hasRoom1 5 (n .entities) ents e ≡ true
-  moves-room = room-space number 5 (n .entities) ents e (h .space .entities-room)
+  pub moves-room : hasRoom1 entityWidth (n .entities) ents e ≡ true
+  moves-room = room-space number entityWidth (n .entities) ents e (h .space .entities-room)
 
   -- The entity can leave its cell.
   pub moves-leaves : LeavesCell cells crowd occ emp n e d o
@@ -160,15 +161,15 @@ module _ (ents cells crowd occ emp : List ℕ) (n : Counts) (e : ℕ) (d c : Cel
         }
 
     -- Its row says the other, and it stands there.
-    pub moved-held : (ents′ : List ℕ) (a : ℕ) → (a, ents′) ≡ stored1 (length ents) (put ltb e (cellWords c) (table1 5 (n .entities) ents))
+    pub moved-held : (ents′ : List ℕ) (a : ℕ) → (a, ents′) ≡ stored1 (length ents) (put ltb e (cellWords c) (table1 entityWidth (n .entities) ents))
         → Peopled cells′ crowd′ occ′ emp′ r (enter touch26 e c (leave touch26 e d o)) → Held ents′ cells′ crowd′ occ′ emp′ r (enter touch26 e c (leave touch26 e d o))
     moved-held ents′ a p x =
         let k = h .leaving .held in
         let t = o .entities in
         let y = ents-put ents cells crowd occ emp n o k e ents′ a c p in
         let l : a ≡ length t =
-        shows-count number number-lawful 5 a ents′ (each entityRow (put ltb e c t)) y ∙ each-length entityRow (put ltb e c t)
+        shows-count number number-lawful entityWidth a ents′ (each entityRow (put ltb e c t)) y ∙ each-length entityRow (put ltb e c t)
         ∙ put-length-old numbers t e c (k .placed .sound .asc) (d, h .leaving .stands) in
         hold ents′ cells′ crowd′ occ′ emp′ r a (enter touch26 e c (leave touch26 e d o))
-        (subst (λ (u : List (ℕ × Cell)). Shows number 5 a ents′ (each entityRow u)) (sym (put-over numbers t e c (k .placed .sound .asc))) y)
+        (subst (λ (u : List (ℕ × Cell)). TableIs number entityWidth a ents′ (each entityRow u)) (sym (put-over numbers t e c (k .placed .sound .asc))) y)
         (f ∙ k .entities-count ∙ sym l) x

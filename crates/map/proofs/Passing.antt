@@ -15,14 +15,15 @@ use Rattle.model.specs.Laws.Members.{each-length}
 use Rattle.model.specs.Laws.Sorted.{Asc}
 use Rattle.model.specs.Laws.Tables.{keys-length}
 use Rattle.model.specs.Laws.Occupied.{not-occupied, at-occupied, occupied-asc}
+use Rattle.layout.specs.Widths.{crowdWidth}
 use Rattle.layout.specs.Rows.{idRow, idsImage}
 use Rattle.layout.specs.Laws.Rows.{ids-wide}
 use Rattle.table.specs.Rows.{cell, table4, stored4, hasRoom4}
 use Rattle.table.specs.Laws.Kinds.{cell-lawful}
 use Rattle.table.specs.Laws.Next.{room-there, put-next, drop-next}
 use Rattle.map.specs.declared.Counts.{Counts}
-use Rattle.map.specs.Told.{Shows}
-use Rattle.map.specs.Held.{standing, crowdOf, counted, Placed, Stored, Peopled, Opens, Closes, EntersCell, LeavesCell}
+use Rattle.map.specs.Told.{TableIs}
+use Rattle.map.specs.Held.{howMany, crowdOf, counted, Placed, Stored, Peopled, Opens, Closes, EntersCell, LeavesCell}
 use Rattle.map.specs.Laws.Each.{keys-each, put-each, drop-each, image-shows, shows-image, shows-count, shows-fit}
 use Rattle.map.specs.Laws.Crowd.{stands-counted, standing-few, crowd-keys, crowd-counted, crowd-enter, crowd-leave, crowd-close, last-leaves, other-stays}
 use Rattle.map.specs.Laws.Placed.{enter-placed, leave-placed}
@@ -56,51 +57,51 @@ stored-but cells occ emp n a t o x =
     }
 
 -- Words that show all tables of cells.
-people : (cells crowd occ emp : List ℕ) (r : Counts) (o : Occupancy) → Placed o → (j : ℕ) → Shows cell 5 j crowd (each idRow (crowdOf o)) → Stored cells occ emp r o
+people : (cells crowd occ emp : List ℕ) (r : Counts) (o : Occupancy) → Placed o → (j : ℕ) → TableIs cell crowdWidth j crowd (each idRow (crowdOf o)) → Stored cells occ emp r o
     → Peopled cells crowd occ emp r o
 unfolding idsImage
 people cells crowd occ emp r o ok j y z =
-    let e : j ≡ r .cells = shows-count cell cell-lawful 5 j crowd (each idRow (crowdOf o)) y ∙ crowd-length o ok ∙ sym (z .cells-count) in
+    let e : j ≡ r .cells = shows-count cell cell-lawful crowdWidth j crowd (each idRow (crowdOf o)) y ∙ crowd-length o ok ∙ sym (z .cells-count) in
     record {
-      crowd-is = shows-image cell cell-lawful 5 j crowd (each idRow (crowdOf o)) y;
-      crowd-fit = omega (arith, shows-fit cell cell-lawful 5 j crowd (each idRow (crowdOf o)) y);
+      crowd-is = shows-image cell cell-lawful crowdWidth j crowd (each idRow (crowdOf o)) y;
+      crowd-fit = omega (arith, shows-fit cell cell-lawful crowdWidth j crowd (each idRow (crowdOf o)) y);
       stored = z;
       placed = ok;
     }
 
 module _ (cells crowd occ emp : List ℕ) (n : Counts) (o : Occupancy) (h : Peopled cells crowd occ emp n o) where
   -- The words show the crowd.
-  pub crowd-shows : Shows cell 5 (n .cells) crowd (each idRow (crowdOf o))
+  pub crowd-shows : TableIs cell crowdWidth (n .cells) crowd (each idRow (crowdOf o))
   unfolding idsImage
   crowd-shows =
-      image-shows cell cell-lawful 5 (n .cells) crowd (each idRow (crowdOf o)) (h .crowd-is) (h .stored .cells-count ∙ sym (crowd-length o (h .placed))) (omega arith)
+      image-shows cell cell-lawful crowdWidth (n .cells) crowd (each idRow (crowdOf o)) (h .crowd-is) (h .stored .cells-count ∙ sym (crowd-length o (h .placed))) (omega arith)
       (ids-wide (crowdOf o)) (subst (Asc below) (sym (keys-each number-of (crowdOf o) ∙ crowd-keys touch26 o (h .placed .sound))) (occupied-asc touch26 o (h .placed .sound)))
 
   -- The number that is found is the number that stand there.
-  pub finds-standing : (k : ℕ) (c : Cell) → k ≡ counted (get same (table4 5 (n .cells) crowd) c) → k ≡ standing (o .entities) c
-  finds-standing k c e = e ∙ crowd-counted touch26 o (h .placed .sound) (table4 5 (n .cells) crowd) c (crowd-shows .is)
+  pub finds-standing : (k : ℕ) (c : Cell) → k ≡ counted (get same (table4 crowdWidth (n .cells) crowd) c) → k ≡ howMany (o .entities) c
+  finds-standing k c e = e ∙ crowd-counted touch26 o (h .placed .sound) (table4 crowdWidth (n .cells) crowd) c (crowd-shows .is)
 
 module _ (cells crowd occ emp : List ℕ) (n : Counts) (e : ℕ) (c : Cell) (o : Occupancy) where
   module _ (h : EntersCell cells crowd occ emp n e c o) where
     -- The number that stand in the cell fits, with one more.
-    pub enters-fits : (k : ℕ) → k ≡ counted (get same (table4 5 (n .cells) crowd) c) → k + 1 ≤ n .entities
+    pub enters-fits : (k : ℕ) → k ≡ counted (get same (table4 crowdWidth (n .cells) crowd) c) → k + 1 ≤ n .entities
     enters-fits k q = omega (arith, finds-standing cells crowd occ emp n o (h .peopled) k c q, standing-few (o .entities) c, h .counts)
 
     -- Nobody stands there.
-    pub enters-nobody : (k : ℕ) → k ≡ counted (get same (table4 5 (n .cells) crowd) c) → k ≡ 0 → standsIn (o .entities) c ≡ false
+    pub enters-nobody : (k : ℕ) → k ≡ counted (get same (table4 crowdWidth (n .cells) crowd) c) → k ≡ 0 → standsIn (o .entities) c ≡ false
     enters-nobody k q z =
-        let f : standing (o .entities) c ≡ 0 = sym (finds-standing cells crowd occ emp n o (h .peopled) k c q) ∙ z in
-        stands-counted (o .entities) c ∙ false-of (ltb 0 (standing (o .entities) c)) (nltb-of 0 (standing (o .entities) c) (omega arith))
+        let f : howMany (o .entities) c ≡ 0 = sym (finds-standing cells crowd occ emp n o (h .peopled) k c q) ∙ z in
+        stands-counted (o .entities) c ∙ false-of (ltb 0 (howMany (o .entities) c)) (nltb-of 0 (howMany (o .entities) c) (omega arith))
 
     -- Somebody stands there.
-    pub enters-somebody : (k : ℕ) → k ≡ counted (get same (table4 5 (n .cells) crowd) c) → (k ≡ 0 → ⊥) → standsIn (o .entities) c ≡ true
+    pub enters-somebody : (k : ℕ) → k ≡ counted (get same (table4 crowdWidth (n .cells) crowd) c) → (k ≡ 0 → ⊥) → standsIn (o .entities) c ≡ true
     enters-somebody k q z =
-        let f : k ≡ standing (o .entities) c = finds-standing cells crowd occ emp n o (h .peopled) k c q in
-        let g : 0 < standing (o .entities) c = omega (arith, z) in
-        stands-counted (o .entities) c ∙ true-of (ltb 0 (standing (o .entities) c)) (lt→ltb 0 (standing (o .entities) c) g)
+        let f : k ≡ howMany (o .entities) c = finds-standing cells crowd occ emp n o (h .peopled) k c q in
+        let g : 0 < howMany (o .entities) c = omega (arith, z) in
+        stands-counted (o .entities) c ∙ true-of (ltb 0 (howMany (o .entities) c)) (lt→ltb 0 (howMany (o .entities) c) g)
 
     -- The cell can open.
-    pub enters-opens : (k : ℕ) → k ≡ counted (get same (table4 5 (n .cells) crowd) c) → k ≡ 0 → Opens cells occ emp n c o
+    pub enters-opens : (k : ℕ) → k ≡ counted (get same (table4 crowdWidth (n .cells) crowd) c) → k ≡ 0 → Opens cells occ emp n c o
     enters-opens k q z =
         record {
           placed = h .peopled .placed;
@@ -112,18 +113,18 @@ module _ (cells crowd occ emp : List ℕ) (n : Counts) (e : ℕ) (c : Cell) (o :
 
     -- The entity has entered.
     pub entered : (cells′ crowd′ occ′ emp′ : List ℕ) (j k : ℕ) (r : Counts)
-        → k ≡ counted (get same (table4 5 (n .cells) crowd) c)
-        → (j, crowd′) ≡ stored4 (length crowd) (put below c ((k + 1) ∷ []) (table4 5 (n .cells) crowd))
+        → k ≡ counted (get same (table4 crowdWidth (n .cells) crowd) c)
+        → (j, crowd′) ≡ stored4 (length crowd) (put below c ((k + 1) ∷ []) (table4 crowdWidth (n .cells) crowd))
         → (b : Bool) → standsIn (o .entities) c ≡ b → Stored cells′ occ′ emp′ r (cond b o (openCell touch26 c o))
         → Peopled cells′ crowd′ occ′ emp′ r (enter touch26 e c o)
     entered cells′ crowd′ occ′ emp′ j k r q u b i x =
         let t = crowd-shows cells crowd occ emp n o (h .peopled) in
-        let z = put-next cell 5 cell-lawful (n .cells) crowd (t .table) (length crowd) j crowd′ c ((k + 1) ∷ []) refl u in
-        let g : k + 1 ≡ suc (standing (o .entities) c) = add-one k ∙ ap suc (finds-standing cells crowd occ emp n o (h .peopled) k c q) in
+        let z = put-next cell crowdWidth cell-lawful (n .cells) crowd (t .table) (length crowd) j crowd′ c ((k + 1) ∷ []) refl u in
+        let g : k + 1 ≡ suc (howMany (o .entities) c) = add-one k ∙ ap suc (finds-standing cells crowd occ emp n o (h .peopled) k c q) in
         people cells′ crowd′ occ′ emp′ r (enter touch26 e c o) (enter-placed o (h .peopled .placed) e c (h .free) (h .ranged)) j
         (record {
           table = z .0;
-          is = z .1 ∙ (λ l. put below c (g l ∷ []) (t .is l)) ∙ put-each number-of below c (suc (standing (o .entities) c)) (crowdOf o)
+          is = z .1 ∙ (λ l. put below c (g l ∷ []) (t .is l)) ∙ put-each number-of below c (suc (howMany (o .entities) c)) (crowdOf o)
               ∙ ap (each idRow) (sym (crowd-enter touch26 o (h .peopled .placed .sound) e c (h .free)));
         })
         (stored-but cells′ occ′ emp′ r (r .entities) (put ltb e c (o .entities)) (cond (standsIn (o .entities) c) o (openCell touch26 c o))
@@ -139,20 +140,20 @@ module _ (cells crowd occ emp : List ℕ) (n : Counts) (e : ℕ) (c : Cell) (o :
     leaves-closes = record { placed = h .peopled .placed; stored = h .peopled .stored; taken = leaves-taken; space = h .space }
 
     -- The number of the cell can be put.
-    pub leaves-room : hasRoom4 5 (n .cells) crowd c ≡ true
+    pub leaves-room : hasRoom4 crowdWidth (n .cells) crowd c ≡ true
     leaves-room =
         let t = crowd-shows cells crowd occ emp n o (h .peopled) in
-        room-there cell 5 cell-lawful (n .cells) crowd
+        room-there cell crowdWidth cell-lawful (n .cells) crowd
         (subst (λ (l : List Cell). Mem c l) (sym (ap keys (t .is) ∙ keys-each number-of (crowdOf o) ∙ crowd-keys touch26 o (h .peopled .placed .sound))) leaves-taken)
 
-    module _ (cells′ crowd′ occ′ emp′ : List ℕ) (j k : ℕ) (r : Counts) (q : k ≡ counted (get same (table4 5 (n .cells) crowd) c)) where
+    module _ (cells′ crowd′ occ′ emp′ : List ℕ) (j k : ℕ) (r : Counts) (q : k ≡ counted (get same (table4 crowdWidth (n .cells) crowd) c)) where
       -- The last entity has left, and the cell is closed.
-      pub left-last : k ≤ 1 → (j, crowd′) ≡ stored4 (length crowd) (dropKey same c (table4 5 (n .cells) crowd)) → Stored cells′ occ′ emp′ r (closeCell touch26 c o)
+      pub left-last : k ≤ 1 → (j, crowd′) ≡ stored4 (length crowd) (dropKey same c (table4 crowdWidth (n .cells) crowd)) → Stored cells′ occ′ emp′ r (closeCell touch26 c o)
           → Peopled cells′ crowd′ occ′ emp′ r (leave touch26 e c o)
       left-last l u x =
           let t = crowd-shows cells crowd occ emp n o (h .peopled) in
-          let m : standing (o .entities) c ≤ 1 = omega (arith, finds-standing cells crowd occ emp n o (h .peopled) k c q) in
-          let z = drop-next cell 5 cell-lawful (n .cells) crowd (t .table) (length crowd) j crowd′ c u in
+          let m : howMany (o .entities) c ≤ 1 = omega (arith, finds-standing cells crowd occ emp n o (h .peopled) k c q) in
+          let z = drop-next cell crowdWidth cell-lawful (n .cells) crowd (t .table) (length crowd) j crowd′ c u in
           people cells′ crowd′ occ′ emp′ r (leave touch26 e c o) (leave-placed o (h .peopled .placed) e c (h .stands)) j
           (record {
             table = z .0;
@@ -163,15 +164,15 @@ module _ (cells crowd occ emp : List ℕ) (n : Counts) (e : ℕ) (c : Cell) (o :
           (subst (λ (v : Bool). Stored cells′ occ′ emp′ r (cond v o (closeCell touch26 c o))) (sym (last-leaves touch26 o (h .peopled .placed .sound) e c (h .stands) m)) x))
 
       -- The entity has left, and others stay.
-      pub left-others : 1 < k → (j, crowd′) ≡ stored4 (length crowd) (put below c ((k - 1) ∷ []) (table4 5 (n .cells) crowd)) → Stored cells′ occ′ emp′ r o
+      pub left-others : 1 < k → (j, crowd′) ≡ stored4 (length crowd) (put below c ((k - 1) ∷ []) (table4 crowdWidth (n .cells) crowd)) → Stored cells′ occ′ emp′ r o
           → Peopled cells′ crowd′ occ′ emp′ r (leave touch26 e c o)
       left-others l u x =
           let t = crowd-shows cells crowd occ emp n o (h .peopled) in
           let w = finds-standing cells crowd occ emp n o (h .peopled) k c q in
-          let m : standing (o .entities) c ≡ suc (suc (k - 2)) = omega arith in
+          let m : howMany (o .entities) c ≡ suc (suc (k - 2)) = omega arith in
           let g : k - 1 ≡ suc (k - 2) = omega arith in
-          let v : 1 < standing (o .entities) c = omega arith in
-          let z = put-next cell 5 cell-lawful (n .cells) crowd (t .table) (length crowd) j crowd′ c ((k - 1) ∷ []) refl u in
+          let v : 1 < howMany (o .entities) c = omega arith in
+          let z = put-next cell crowdWidth cell-lawful (n .cells) crowd (t .table) (length crowd) j crowd′ c ((k - 1) ∷ []) refl u in
           people cells′ crowd′ occ′ emp′ r (leave touch26 e c o) (leave-placed o (h .peopled .placed) e c (h .stands)) j
           (record {
             table = z .0;

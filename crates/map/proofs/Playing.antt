@@ -13,40 +13,41 @@ use Rattle.model.specs.Laws.Tests.{T-true}
 use Rattle.model.specs.Laws.Orders.{numbers}
 use Rattle.model.specs.Laws.Tables.{free-of}
 use Rattle.table.specs.Rows.{cellWords, table1}
+use Rattle.layout.specs.Widths.{entityWidth}
 use Rattle.map.specs.declared.Counts.{Counts}
 use Rattle.map.specs.declared.Stand.{Stand}
 use Rattle.map.specs.declared.Stand.the-variants.{Inside, Nowhere}
-use Rattle.map.specs.Stands.{standOf, whereOf}
+use Rattle.map.specs.StandOf.{standOf, standIn}
 use Rattle.map.specs.Held.{Held, Enters, Leaves, Moves, RoomToEnter, RoomToLeave, removalOf, moveOf}
 use Rattle.map.specs.Laws.Each.{under, get-each}
 use Rattle.map.proofs.Moving.{ents-shows}
 
 -- What a lookup of words finds is what a lookup of the entities finds.
-found-where : (k : ℕ) (m : Option Cell) → standOf (under (λ (e : ℕ) (c : Cell). cellWords c) k m) ≡ whereOf m
+found-where : (k : ℕ) (m : Option Cell) → standOf (under (λ (e : ℕ) (c : Cell). cellWords c) k m) ≡ standIn m
 found-where k none = refl
 found-where k (some c) = refl
 
-inside-is : (m : Option Cell) (d : Cell) → Inside d ≡ whereOf m → m ≡ some d
+inside-is : (m : Option Cell) (d : Cell) → Inside d ≡ standIn m → m ≡ some d
 inside-is none d e = let z : _≡_ {A = ℕ} 0 1 = cc in absurd (omega arith)
 inside-is (some c) d e = cc
 
-nowhere-is : (m : Option Cell) → Nowhere ≡ whereOf m → m ≡ none
+nowhere-is : (m : Option Cell) → Nowhere ≡ standIn m → m ≡ none
 nowhere-is none e = refl
 nowhere-is (some c) e = let z : _≡_ {A = ℕ} 0 1 = cc in absurd (omega arith)
 
 module _ (ents cells crowd occ emp : List ℕ) (n : Counts) (o : Occupancy) (h : Held ents cells crowd occ emp n o) (e : ℕ) where
-  where-is : standOf (get eqb (table1 5 (n .entities) ents) e) ≡ whereOf (get eqb (o .entities) e)
+  where-is : standOf (get eqb (table1 entityWidth (n .entities) ents) e) ≡ standIn (get eqb (o .entities) e)
   where-is =
       ap (λ (t : List (ℕ × List ℕ)). standOf (get eqb t e)) (ents-shows ents cells crowd occ emp n o h .is)
       ∙ ap standOf (get-each (λ (e : ℕ) (c : Cell). cellWords c) eqb (λ a b t. numbers .same-eq a b (T-true t)) (o .entities) e)
       ∙ found-where e (get eqb (o .entities) e)
 
   -- An entity that is found stands there.
-  pub stands-at : (s : Stand) (d : Cell) → s ≡ Inside d → s ≡ standOf (get eqb (table1 5 (n .entities) ents) e) → get eqb (o .entities) e ≡ some d
+  pub stands-at : (s : Stand) (d : Cell) → s ≡ Inside d → s ≡ standOf (get eqb (table1 entityWidth (n .entities) ents) e) → get eqb (o .entities) e ≡ some d
   stands-at s d p q = inside-is (get eqb (o .entities) e) d (sym p ∙ q ∙ where-is)
 
   -- An entity that is not found stands nowhere.
-  pub stands-nowhere : (s : Stand) → s ≡ Nowhere → s ≡ standOf (get eqb (table1 5 (n .entities) ents) e) → get eqb (o .entities) e ≡ none
+  pub stands-nowhere : (s : Stand) → s ≡ Nowhere → s ≡ standOf (get eqb (table1 entityWidth (n .entities) ents) e) → get eqb (o .entities) e ≡ none
   stands-nowhere s p q = nowhere-is (get eqb (o .entities) e) (sym p ∙ q ∙ where-is)
 
 module _ (o : Occupancy) (e : ℕ) where

@@ -13,12 +13,13 @@ use Rattle.model.specs.Laws.Sorted.{Asc}
 use Rattle.model.specs.Laws.Tables.{At, Free}
 use Rattle.model.specs.Laws.Occupied.{Sound}
 use Rattle.model.specs.Laws.Net.{Inside}
+use Rattle.layout.specs.Widths.{cellWidth, crowdWidth, entityWidth, netWidth}
 use Rattle.layout.specs.Rows.{entitiesImage, cellsImage, netImage, idsImage}
 use Rattle.map.specs.declared.Counts.{Counts}
 
 -- How many entities stand in the cell.
-unfoldable pub standing : List (ℕ × Cell) → Cell → ℕ
-standing t c = length (keep (λ (p : ℕ × Cell). same c (p .1)) t)
+unfoldable pub howMany : List (ℕ × Cell) → Cell → ℕ
+howMany t c = length (keep (λ (p : ℕ × Cell). same c (p .1)) t)
 
 -- Some cells, each with what a rule gives for it.
 abbrev pub tallied : (Cell → ℕ) → List Cell → List (Cell × ℕ)
@@ -26,11 +27,11 @@ tallied f = each (λ c. (c, f c))
 
 -- Each cell where entities stand, with their number.
 unfoldable pub tally : List (ℕ × Cell) → List (Cell × ℕ)
-tally t = tallied (standing t) (ascending below (values t))
+tally t = tallied (howMany t) (ascending below (values t))
 
 -- Each occupied cell with the number of entities that stand in it.
 unfoldable pub crowdOf : Occupancy → List (Cell × ℕ)
-crowdOf o = tallied (standing (o .entities)) (occupied o)
+crowdOf o = tallied (howMany (o .entities)) (occupied o)
 
 -- An occupancy that is sound and in range; its net lists ascend, the newly occupied cells are occupied, and the newly emptied are not.
 pub record Placed (o : Occupancy) : Type 0 where
@@ -49,41 +50,41 @@ pub record Stored (cells occ emp : List ℕ) (n : Counts) (o : Occupancy) : Type
   pub cells-count : n .cells ≡ length (o .masks)
   pub occupied-count : n .occupied ≡ length (o .newlyOccupied)
   pub emptied-count : n .emptied ≡ length (o .newlyEmptied)
-  pub cells-fit : 5 * n .cells ≤ length cells
-  pub occupied-fit : 4 * n .occupied ≤ length occ
-  pub emptied-fit : 4 * n .emptied ≤ length emp
+  pub cells-fit : cellWidth * n .cells ≤ length cells
+  pub occupied-fit : netWidth * n .occupied ≤ length occ
+  pub emptied-fit : netWidth * n .emptied ≤ length emp
 
 -- The whole map in words: the entities, the occupied cells, how many stand in each, and both net lists.
 pub record Held (ents cells crowd occ emp : List ℕ) (n : Counts) (o : Occupancy) : Type 0 where
   pub entities-is : ents ≡ entitiesImage (length ents) (o .entities)
   pub entities-count : n .entities ≡ length (o .entities)
-  pub entities-fit : 5 * n .entities ≤ length ents
+  pub entities-fit : entityWidth * n .entities ≤ length ents
   pub crowd-is : crowd ≡ idsImage (length crowd) (crowdOf o)
-  pub crowd-fit : 5 * n .cells ≤ length crowd
+  pub crowd-fit : crowdWidth * n .cells ≤ length crowd
   pub stored : Stored cells occ emp n o
   pub placed : Placed o
 
 -- The map in words but for the entities: the occupied cells, how many stand in each, and both net lists.
 pub record Peopled (cells crowd occ emp : List ℕ) (n : Counts) (o : Occupancy) : Type 0 where
   pub crowd-is : crowd ≡ idsImage (length crowd) (crowdOf o)
-  pub crowd-fit : 5 * n .cells ≤ length crowd
+  pub crowd-fit : crowdWidth * n .cells ≤ length crowd
   pub stored : Stored cells occ emp n o
   pub placed : Placed o
 
 -- There is space for one cell more, with its mask, and for one newly occupied cell more.
 pub record RoomToOpen (cells occ : List ℕ) (n : Counts) : Type 0 where
-  pub cells-room : 5 * suc (n .cells) ≤ length cells
-  pub occupied-room : 4 * suc (n .occupied) ≤ length occ
+  pub cells-room : cellWidth * suc (n .cells) ≤ length cells
+  pub occupied-room : netWidth * suc (n .occupied) ≤ length occ
 
 -- There is space for one entity more, and for its cell.
 pub record RoomToEnter (ents cells crowd occ : List ℕ) (n : Counts) : Type 0 where
-  pub entities-room : 5 * suc (n .entities) ≤ length ents
-  pub crowd-room : 5 * suc (n .cells) ≤ length crowd
+  pub entities-room : entityWidth * suc (n .entities) ≤ length ents
+  pub crowd-room : crowdWidth * suc (n .cells) ≤ length crowd
   pub opening : RoomToOpen cells occ n
 
 -- There is space for one newly emptied cell more.
 abbrev pub RoomToLeave : List ℕ → Counts → Type 0
-RoomToLeave emp n = 4 * suc (n .emptied) ≤ length emp
+RoomToLeave emp n = netWidth * suc (n .emptied) ≤ length emp
 
 -- The cell c, which is in range and not occupied, can open.
 pub record Opens (cells occ emp : List ℕ) (n : Counts) (c : Cell) (o : Occupancy) : Type 0 where
@@ -119,7 +120,7 @@ pub record EntersCell (cells crowd occ emp : List ℕ) (n : Counts) (e : ℕ) (c
   pub free : Free eqb (o .entities) e
   pub counts : length (o .entities) < n .entities
   pub ranged : cellInRange c ≡ true
-  pub crowd-room : 5 * suc (n .cells) ≤ length crowd
+  pub crowd-room : crowdWidth * suc (n .cells) ≤ length crowd
   pub opening : RoomToOpen cells occ n
 
 -- The entity e, which stands in c, can leave it.

@@ -1,5 +1,4 @@
 pub mod Tables
-pub mod Lines
 pub mod Each
 pub mod Near
 pub mod Open
@@ -7,14 +6,3 @@ pub mod Shown
 pub mod Crowd
 pub mod Placed
 pub mod Tally
-pub mod Walking
-pub mod Listing
-pub mod Landing
-pub mod Reads
-pub mod Unmarked
-pub mod Pushes
-pub mod Filling
-pub mod Examples
-pub mod Cubes
-pub mod Outside
-pub mod Planes

@@ -1,9 +1,4 @@
 pub mod Told
 pub mod Held
-pub mod Stands
-pub mod Rows
-pub mod Fronts
-pub mod Standing
-pub mod Answers
-pub mod Beside
+pub mod StandOf
 pub mod Laws

@@ -9,9 +9,10 @@ use Rattle.component.specs.declared.Cell.{Cell}
 use Rattle.model.specs.Lists.{has, each}
 use Rattle.model.specs.Masks.{withBit, withoutBit}
 use Rattle.table.specs.Rows.{Kind, tableOf, isTableOf}
+use Rattle.layout.specs.Widths.{cellMask}
 
 -- The words are those of a table of n rows of width w, and it is t.
-pub record Shows {K : Type 0} (kind : Kind K) (w n : ℕ) (s : List ℕ) (t : List (K × List ℕ)) : Type 0 where
+pub record TableIs {K : Type 0} (kind : Kind K) (w n : ℕ) (s : List ℕ) (t : List (K × List ℕ)) : Type 0 where
   pub table : isTableOf kind w n s ≡ true
   pub is : tableOf kind w n s ≡ t
 
@@ -25,7 +26,7 @@ revised joins w ws = each (revisedMask joins w) ws
 
 -- The same of a row, whose mask stands behind the four words of its cell.
 unfoldable pub revisedRow : Bool → ℕ → List ℕ → List ℕ
-revisedRow joins w row = take 4 row ++ revised joins w (drop 4 row)
+revisedRow joins w row = take cellMask row ++ revised joins w (drop cellMask row)
 
 -- The mask of e, which changes if e is d.
 unfoldable pub toldOne : Bool → Cell → ℕ → Cell → List ℕ → List ℕ

@@ -1,16 +1,15 @@
 // The map in lent memory: where each entity stands, the occupied cells with their masks, how many stand in each, and both net lists.
-mod lookup;
-
 use component::Cell;
+use layout::CELL_MASK;
+use layout::CELL_WIDTH;
+use layout::CROWD_COUNT;
+use layout::CROWD_WIDTH;
+use layout::ENTITY_CELL;
+use layout::ENTITY_WIDTH;
+use layout::NET_WIDTH;
 use layout::neighbour_of;
-pub use lookup::cube_into;
-pub use lookup::flood_into;
-pub use lookup::flood_rows;
-pub use lookup::mark_outside;
-pub use lookup::nearby_into;
-pub use lookup::next_row;
-pub use lookup::write_cell;
 use table::Place;
+use table::contains;
 use table::find4_near;
 use table::index;
 use table::is_found;
@@ -24,12 +23,13 @@ ghost use Rattle.component.specs.Order.{same, below};
 ghost use Rattle.model.specs.Lists.{has, keys, get, put, dropKey, change};
 ghost use Rattle.model.specs.Cells.{touch26, cellInRange};
 ghost use Rattle.model.specs.Occupancy.{Occupancy, openCell, closeCell, enter, leave};
+ghost use Rattle.layout.specs.Widths.{entityWidth, cellWidth, netWidth, crowdWidth};
 ghost use Rattle.layout.specs.Rows.{neighbourOf, idsImage, entitiesIn};
 ghost use Rattle.table.specs.Moves.{over};
-ghost use Rattle.table.specs.Rows.{cell, cellWords, table1, stored1, isTable1, hasRoom1, table4, stored4, isTable4, hasRoom4};
+ghost use Rattle.table.specs.Rows.{cell, cellWords, placed, placeOf, table1, stored1, isTable1, hasRoom1, table4, stored4, isTable4, hasRoom4};
 ghost use Rattle.map.specs.Held.{Stored, Opens, Closes, Held, Peopled, Enters, EntersCell, Leaves, LeavesCell, Moves, RoomToEnter, RoomToLeave, removalOf, moveOf, counted, tally};
-ghost use Rattle.map.specs.Stands.{standOf};
-ghost use Rattle.map.specs.Told.{Shows, revisedMask, revisedRow, toldOne, told, noted};
+ghost use Rattle.map.specs.StandOf.{standOf};
+ghost use Rattle.map.specs.Told.{TableIs, revisedMask, revisedRow, toldOne, told, noted};
 
 // How many rows each table has; the crowd has as many as the cells.
 pub struct Counts {
@@ -53,19 +53,19 @@ fn revised(m: u64, w: u64, joins: bool) -> u64
 
 // The mask of row i gains the bit w, or loses it.
 fn revise(cells: &mut [u64], i: usize, w: u64, joins: bool)
-    requires { ⌜ (5 * i + 5 ≤ length (now cells)) × (w < 64) ⌝ }
-    ensures { λ _. ⌜ now (cells .exit) ≡ over (now (cells .entry)) (5 * i) (revisedRow joins w (take 5 (drop (5 * i) (now (cells .entry))))) ⌝ }
+    requires { ⌜ (cellWidth * i + cellWidth ≤ length (now cells)) × (w < 64) ⌝ }
+    ensures { λ _. ⌜ now (cells .exit) ≡ over (now (cells .entry)) (cellWidth * i) (revisedRow joins w (take cellWidth (drop (cellWidth * i) (now (cells .entry))))) ⌝ }
 {
-    let a = 5 * i + 4;
+    let a = CELL_WIDTH * i + CELL_MASK;
     cells[a] = revised(cells[a], w, joins);
 }
 
 // The mask of neighbour k of c, where it is occupied, gains the bit of c, or loses it; the answer is its place.
 fn tell_one(cells: &mut [u64], m: usize, c: Cell, k: u64, joins: bool, near: usize) -> usize
-    requires { ⌜ (isTable4 5 m (now cells) ≡ true) × (k ≤ 26) ⌝ }
-    ensures { λ _. ⌜ Shows cell 5 m (now (cells .exit)) (change (toldOne joins (neighbourOf c k) (26 - k)) (table4 5 m (now (cells .entry)))) ⌝ }
+    requires { ⌜ (isTable4 cellWidth m (now cells) ≡ true) × (k ≤ 26) ⌝ }
+    ensures { λ r. ⌜ (r ≡ placed (placeOf below (keys (table4 cellWidth m (now (cells .entry)))) (neighbourOf c k))) × TableIs cell cellWidth m (now (cells .exit)) (change (toldOne joins (neighbourOf c k) (26 - k)) (table4 cellWidth m (now (cells .entry)))) ⌝ }
 {
-    let p = find4_near(cells, 5, m, neighbour_of(c, k), near);
+    let p = find4_near(cells, CELL_WIDTH, m, neighbour_of(c, k), near);
     match p {
         Place::Found(i) => {
             revise(cells, i, 26 - k, joins);
@@ -77,8 +77,8 @@ fn tell_one(cells: &mut [u64], m: usize, c: Cell, k: u64, joins: bool, near: usi
 
 // The mask of each occupied neighbour of c gains the bit of c, or loses it.
 fn tell(cells: &mut [u64], m: usize, c: Cell, joins: bool)
-    requires { ⌜ isTable4 5 m (now cells) ≡ true ⌝ }
-    ensures { λ _. ⌜ Shows cell 5 m (now (cells .exit)) (change (told joins (neighbourOf c) 26) (table4 5 m (now (cells .entry)))) ⌝ }
+    requires { ⌜ isTable4 cellWidth m (now cells) ≡ true ⌝ }
+    ensures { λ _. ⌜ TableIs cell cellWidth m (now (cells .exit)) (change (told joins (neighbourOf c) 26) (table4 cellWidth m (now (cells .entry)))) ⌝ }
 {
     let mut near = 0;
     let mut k = 0;
@@ -88,24 +88,16 @@ fn tell(cells: &mut [u64], m: usize, c: Cell, joins: bool)
     }
 }
 
-// Whether a cell is among the keys of m rows of width w.
-pub fn contains(s: &[u64], w: usize, m: usize, c: Cell) -> bool
-    requires { ⌜ isTable4 w m (now s) ≡ true ⌝ }
-    ensures { λ r. ⌜ r ≡ has same (keys (table4 w m (now (s .entry)))) c ⌝ }
-{
-    is_found(table::find4(s, w, m, c))
-}
-
 // The mask of c among the cells of m rows.
 pub fn note(cells: &[u64], m: usize, c: Cell) -> u64
-    requires { ⌜ isTable4 5 m (now cells) ≡ true ⌝ }
-    ensures { λ r. ⌜ r ≡ noted (keys (table4 5 m (now (cells .entry)))) (neighbourOf c) 26 ⌝ }
+    requires { ⌜ isTable4 cellWidth m (now cells) ≡ true ⌝ }
+    ensures { λ r. ⌜ r ≡ noted (keys (table4 cellWidth m (now (cells .entry)))) (neighbourOf c) 26 ⌝ }
 {
     let mut mask = 0;
     let mut near = 0;
     let mut k = 0;
     while k < 26 {
-        let p = find4_near(cells, 5, m, neighbour_of(c, k + 1), near);
+        let p = find4_near(cells, CELL_WIDTH, m, neighbour_of(c, k + 1), near);
         near = index(p);
         if is_found(p) {
             mask = mask::set(mask, k);
@@ -125,11 +117,11 @@ struct Nets {
 
 // c leaves one net list if it is there, and else joins the other.
 fn cross(from: &mut [u64], to: &mut [u64], n: usize, m: usize, c: Cell) -> Nets
-    requires { ⌜ (isTable4 4 n (now from) ≡ true) × (isTable4 4 m (now to) ≡ true) × (4 * suc m ≤ length (now to)) ⌝ }
-    ensures { λ r. ⌜ (Shows cell 4 (r .left) (now (from .exit)) (dropKey same c (table4 4 n (now (from .entry))))) × (Shows cell 4 (r .joined) (now (to .exit)) (cond (has same (keys (table4 4 n (now (from .entry)))) c) (table4 4 m (now (to .entry))) (put below c [] (table4 4 m (now (to .entry)))))) ⌝ }
+    requires { ⌜ (isTable4 netWidth n (now from) ≡ true) × (isTable4 netWidth m (now to) ≡ true) × (netWidth * suc m ≤ length (now to)) ⌝ }
+    ensures { λ r. ⌜ (TableIs cell netWidth (r .left) (now (from .exit)) (dropKey same c (table4 netWidth n (now (from .entry))))) × (TableIs cell netWidth (r .joined) (now (to .exit)) (cond (has same (keys (table4 netWidth n (now (from .entry)))) c) (table4 netWidth m (now (to .entry))) (put below c [] (table4 netWidth m (now (to .entry)))))) ⌝ }
 {
-    if contains(from, 4, n, c) {
-        let k = table::remove4(from, 4, n, c);
+    if contains(from, NET_WIDTH, n, c) {
+        let k = table::remove4(from, NET_WIDTH, n, c);
         return Nets { left: k, joined: m };
     }
     let row = [c.grid, c.z, c.y, c.x];
@@ -138,7 +130,7 @@ fn cross(from: &mut [u64], to: &mut [u64], n: usize, m: usize, c: Cell) -> Nets
 }
 
 // A cell opens: it gets its mask, joins those of its neighbours, and crosses the net lists.
-pub fn insert_entry(
+fn insert_entry(
     cells: &mut [u64],
     occ: &mut [u64],
     emp: &mut [u64],
@@ -164,7 +156,7 @@ pub fn insert_entry(
 }
 
 // A cell closes: its row goes out, it leaves the masks of its neighbours, and crosses the net lists.
-pub fn remove_entry(
+fn remove_entry(
     cells: &mut [u64],
     occ: &mut [u64],
     emp: &mut [u64],
@@ -175,7 +167,7 @@ pub fn remove_entry(
     ensures { λ r. ⌜ r .entities ≡ n .entities ⌝ }
     ensures { λ r. ⌜ ((o : Occupancy) → Closes (now (cells .entry)) (now (occ .entry)) (now (emp .entry)) n c o → Stored (now (cells .exit)) (now (occ .exit)) (now (emp .exit)) r (closeCell touch26 c o)) ⌝ }
 {
-    let k = table::remove4(cells, 5, n.cells, c);
+    let k = table::remove4(cells, CELL_WIDTH, n.cells, c);
     tell(cells, k, c, false);
     let x = cross(occ, emp, n.occupied, n.emptied, c);
     Counts {
@@ -188,20 +180,20 @@ pub fn remove_entry(
 
 // How many stand in c.
 fn how_many(crowd: &[u64], m: usize, c: Cell) -> u64
-    requires { ⌜ isTable4 5 m (now crowd) ≡ true ⌝ }
-    ensures { λ r. ⌜ r ≡ counted (get same (table4 5 m (now (crowd .entry))) c) ⌝ }
+    requires { ⌜ isTable4 crowdWidth m (now crowd) ≡ true ⌝ }
+    ensures { λ r. ⌜ r ≡ counted (get same (table4 crowdWidth m (now (crowd .entry))) c) ⌝ }
 {
-    let p = table::find4(crowd, 5, m, c);
+    let p = table::find4(crowd, CROWD_WIDTH, m, c);
     match p {
-        Place::Found(i) => crowd[5 * i + 4],
+        Place::Found(i) => crowd[CROWD_WIDTH * i + CROWD_COUNT],
         Place::Missing(_) => 0,
     }
 }
 
 // k stand in c.
 fn set_count(crowd: &mut [u64], m: usize, c: Cell, k: u64) -> usize
-    requires { ⌜ (isTable4 5 m (now crowd) ≡ true) × (hasRoom4 5 m (now crowd) c ≡ true) ⌝ }
-    ensures { λ r. ⌜ (r, now (crowd .exit)) ≡ stored4 (length (now (crowd .entry))) (put below c (k ∷ []) (table4 5 m (now (crowd .entry)))) ⌝ }
+    requires { ⌜ (isTable4 crowdWidth m (now crowd) ≡ true) × (hasRoom4 crowdWidth m (now crowd) c ≡ true) ⌝ }
+    ensures { λ r. ⌜ (r, now (crowd .exit)) ≡ stored4 (length (now (crowd .entry))) (put below c (k ∷ []) (table4 crowdWidth m (now (crowd .entry)))) ⌝ }
 {
     let row = [c.grid, c.z, c.y, c.x, k];
     table::put4(crowd, m, &row)
@@ -243,7 +235,7 @@ fn leave_cell(
 {
     let k = how_many(crowd, n.cells, c);
     if k <= 1 {
-        table::remove4(crowd, 5, n.cells, c);
+        table::remove4(crowd, CROWD_WIDTH, n.cells, c);
         return remove_entry(cells, occ, emp, n, c);
     }
     set_count(crowd, n.cells, c, k - 1);
@@ -252,15 +244,15 @@ fn leave_cell(
 
 // The row of e says c; the answer is the number of rows.
 fn set_stand(ents: &mut [u64], n: usize, e: u64, c: Cell) -> usize
-    requires { ⌜ (isTable1 5 n (now ents) ≡ true) × (hasRoom1 5 n (now ents) e ≡ true) ⌝ }
-    ensures { λ r. ⌜ (r, now (ents .exit)) ≡ stored1 (length (now (ents .entry))) (put ltb e (cellWords c) (table1 5 n (now (ents .entry)))) ⌝ }
+    requires { ⌜ (isTable1 entityWidth n (now ents) ≡ true) × (hasRoom1 entityWidth n (now ents) e ≡ true) ⌝ }
+    ensures { λ r. ⌜ (r, now (ents .exit)) ≡ stored1 (length (now (ents .entry))) (put ltb e (cellWords c) (table1 entityWidth n (now (ents .entry)))) ⌝ }
 {
     let row = [e, c.grid, c.z, c.y, c.x];
     table::put1(ents, n, &row)
 }
 
 // The entity, which stands nowhere, stands in c.
-pub fn insert(
+fn insert(
     ents: &mut [u64],
     cells: &mut [u64],
     crowd: &mut [u64],
@@ -297,7 +289,7 @@ pub fn remove(
     requires { ⌜ ((o : Occupancy) × Leaves (now ents) (now cells) (now crowd) (now occ) (now emp) n e c o) ⌝ }
     ensures { λ r. ⌜ ((o : Occupancy) → Leaves (now (ents .entry)) (now (cells .entry)) (now (crowd .entry)) (now (occ .entry)) (now (emp .entry)) n e c o → Held (now (ents .exit)) (now (cells .exit)) (now (crowd .exit)) (now (occ .exit)) (now (emp .exit)) r (leave touch26 e c o)) ⌝ }
 {
-    let a = table::remove1(ents, 5, n.entities, e);
+    let a = table::remove1(ents, ENTITY_WIDTH, n.entities, e);
     let r = Counts {
         entities: a,
         cells: n.cells,
@@ -334,13 +326,13 @@ pub enum Stand {
 }
 
 // Where the entity stands.
-pub fn stand_of(ents: &[u64], n: usize, e: u64) -> Stand
-    requires { ⌜ isTable1 5 n (now ents) ≡ true ⌝ }
-    ensures { λ r. ⌜ r ≡ standOf (get eqb (table1 5 n (now (ents .entry))) e) ⌝ }
+fn stand_of(ents: &[u64], n: usize, e: u64) -> Stand
+    requires { ⌜ isTable1 entityWidth n (now ents) ≡ true ⌝ }
+    ensures { λ r. ⌜ r ≡ standOf (get eqb (table1 entityWidth n (now (ents .entry))) e) ⌝ }
 {
-    let p = table::find1(ents, 5, n, e);
+    let p = table::find1(ents, ENTITY_WIDTH, n, e);
     match p {
-        Place::Found(i) => Stand::Inside(table::cell_at(ents, 5 * i + 1)),
+        Place::Found(i) => Stand::Inside(table::cell_at(ents, ENTITY_WIDTH * i + ENTITY_CELL)),
         Place::Missing(_) => Stand::Nowhere,
     }
 }
@@ -393,13 +385,13 @@ pub fn play_move(
 
 // How many entities stand in each cell; the answer is the number of rows.
 pub fn crowd_of(ents: &[u64], n: usize, crowd: &mut [u64]) -> usize
-    requires { ⌜ (5 * n ≤ length (now ents)) × (now crowd ≡ replicate (length (now crowd)) 0) × (5 * length (tally (entitiesIn n (now ents))) ≤ length (now crowd)) ⌝ }
+    requires { ⌜ (entityWidth * n ≤ length (now ents)) × (now crowd ≡ replicate (length (now crowd)) 0) × (crowdWidth * length (tally (entitiesIn n (now ents))) ≤ length (now crowd)) ⌝ }
     ensures { λ r. ⌜ (r ≡ length (tally (entitiesIn n (now (ents .entry))))) × (now (crowd .exit) ≡ idsImage (length (now (crowd .entry))) (tally (entitiesIn n (now (ents .entry))))) ⌝ }
 {
     let mut m = 0;
     let mut i = 0;
     while i < n {
-        let c = table::cell_at(ents, 5 * i + 1);
+        let c = table::cell_at(ents, ENTITY_WIDTH * i + ENTITY_CELL);
         let k = how_many(crowd, m, c);
         m = set_count(crowd, m, c, k + 1);
         i += 1;

@@ -17,59 +17,60 @@ use Rattle.model.specs.Places.{slot, placeIn}
 use Rattle.model.specs.Laws.Slots.{slot-low, slot-high, mask-end, mask-none}
 use Rattle.table.specs.Rows.{cell, cellAt, rowsOf, table4}
 use Rattle.table.specs.Laws.Words.{word-at, rest-at}
+use Rattle.layout.specs.Widths.{cellMask, cellWidth}
 use Rattle.layout.specs.Rows.{idOf, cellsIn}
 use Rattle.masks_check.specs.Rows.{rowRight}
-use Rattle.scans.specs.Scans.{Lines}
-use Rattle.scans.specs.Laws.Scans.{lines-as, lines-at, lines-each}
-use Rattle.scans.specs.Laws.Readings.{key-lines, row-lines}
+use Rattle.points_check.specs.Lines.{Lines}
+use Rattle.points_check.specs.Laws.Lines.{lines-as, lines-at, lines-each}
+use Rattle.points_check.specs.Laws.Readings.{key-lines, row-lines}
 
 module _ (m : ℕ) (s : List ℕ) (c : Cell) where
   abbrev k : List Cell
-  k = keys (table4 5 m s)
+  k = keys (table4 cellWidth m s)
 
-  lines : Lines (keys (table4 5 m s)) m (λ i. cellAt s (5 * i))
-  lines = key-lines 5 m s (omega arith)
+  lines : Lines (keys (table4 cellWidth m s)) m (λ i. cellAt s (cellWidth * i))
+  lines = key-lines cellWidth m s (omega arith)
 
   -- Before any row.
-  pub scan-none : 0 ≡ maskOf touch26 (take 0 (keys (table4 5 m s))) c
+  pub scan-none : 0 ≡ maskOf touch26 (take 0 (keys (table4 cellWidth m s))) c
   scan-none = mask-none all26 c
 
   module _ (i : ℕ) (h : i < m) where
-    more : take (i + 1) k ≡ take i k ++ (cellAt s (5 * i) ∷ [])
+    more : take (i + 1) k ≡ take i k ++ (cellAt s (cellWidth * i) ∷ [])
     more =
         let g : length k ≡ m = lines .len in
         ap (λ (n : ℕ). take n k) (add-one i) ∙ take-suc k i (cellAt s 0) (omega arith) ∙ ap (λ x. take i k ++ (x ∷ [])) (lines-at lines i h (cellAt s 0))
 
-    next : (b : ℕ) → b ≡ maskOf touch26 (take i k) c → (t : Bool) → touches c (cellAt s (5 * i)) ≡ t → cond t (withBit b (slot c (cellAt s (5 * i)))) b ≡ maskOf touch26 (take (i + 1) k) c
+    next : (b : ℕ) → b ≡ maskOf touch26 (take i k) c → (t : Bool) → touches c (cellAt s (cellWidth * i)) ≡ t → cond t (withBit b (slot c (cellAt s (cellWidth * i)))) b ≡ maskOf touch26 (take (i + 1) k) c
     next b e t f =
-        (λ j. cond (sym f j) (withBit (e j) (slot c (cellAt s (5 * i)))) (e j))
-        ∙ ap (λ (q : Bool). cond q (withBit (maskOf touch26 (take i k) c) (slot c (cellAt s (5 * i)))) (maskOf touch26 (take i k) c)) (sym (touch26-touches c (cellAt s (5 * i))))
-        ∙ sym (ap (λ (l : List Cell). maskOf touch26 l c) more ∙ mask-end all26 (take i k) (cellAt s (5 * i)) c)
+        (λ j. cond (sym f j) (withBit (e j) (slot c (cellAt s (cellWidth * i)))) (e j))
+        ∙ ap (λ (q : Bool). cond q (withBit (maskOf touch26 (take i k) c) (slot c (cellAt s (cellWidth * i)))) (maskOf touch26 (take i k) c)) (sym (touch26-touches c (cellAt s (cellWidth * i))))
+        ∙ sym (ap (λ (l : List Cell). maskOf touch26 l c) more ∙ mask-end all26 (take i k) (cellAt s (cellWidth * i)) c)
 
     -- One row more, which touches.
-    pub scan-yes : (b : ℕ) → b ≡ maskOf touch26 (take i (keys (table4 5 m s))) c → touches c (cellAt s (5 * i)) ≡ true → (r : ℕ) → r ≡ withBit b (slot c (cellAt s (5 * i))) → r ≡ maskOf touch26 (take (i + 1) (keys (table4 5 m s))) c
+    pub scan-yes : (b : ℕ) → b ≡ maskOf touch26 (take i (keys (table4 cellWidth m s))) c → touches c (cellAt s (cellWidth * i)) ≡ true → (r : ℕ) → r ≡ withBit b (slot c (cellAt s (cellWidth * i))) → r ≡ maskOf touch26 (take (i + 1) (keys (table4 cellWidth m s))) c
     scan-yes b e f r q = q ∙ next b e true f
 
     -- One row more, which does not.
-    pub scan-no : (b : ℕ) → b ≡ maskOf touch26 (take i (keys (table4 5 m s))) c → touches c (cellAt s (5 * i)) ≡ false → b ≡ maskOf touch26 (take (i + 1) (keys (table4 5 m s))) c
+    pub scan-no : (b : ℕ) → b ≡ maskOf touch26 (take i (keys (table4 cellWidth m s))) c → touches c (cellAt s (cellWidth * i)) ≡ false → b ≡ maskOf touch26 (take (i + 1) (keys (table4 cellWidth m s))) c
     scan-no b e f = next b e false f
 
   -- After all rows.
-  pub scan-end : (i b : ℕ) → m ≤ i → b ≡ maskOf touch26 (take i (keys (table4 5 m s))) c → b ≡ maskOf touch26 (keys (table4 5 m s)) c
+  pub scan-end : (i b : ℕ) → m ≤ i → b ≡ maskOf touch26 (take i (keys (table4 cellWidth m s))) c → b ≡ maskOf touch26 (keys (table4 cellWidth m s)) c
   scan-end i b h e = let g : length k ≡ m = lines .len in e ∙ ap (λ (l : List Cell). maskOf touch26 l c) (take-all i k (omega arith))
 
 -- The occupied cells with their masks, row by row.
-pub mask-lines : (m : ℕ) (s : List ℕ) → Lines (cellsIn m s) m (λ i. (cellAt s (5 * i), getD s (5 * i + 4) 0))
+pub mask-lines : (m : ℕ) (s : List ℕ) → Lines (cellsIn m s) m (λ i. (cellAt s (cellWidth * i), getD s (cellWidth * i + cellMask) 0))
 unfolding cellsIn
 mask-lines m s =
-    lines-as (lines-each idOf (row-lines cell 5 m s))
+    lines-as (lines-each idOf (row-lines cell cellWidth m s))
     (λ i h.
-    let e : 5 * i + 0 ≡ 5 * i = omega arith in
-    let g = word-at 5 m s i 0 h (omega arith) ∙ ap (λ (n : ℕ). getD s n 0) e in
-    let z = word-at 5 m s i 1 h (omega arith) in
-    let y = word-at 5 m s i 2 h (omega arith) in
-    let x = word-at 5 m s i 3 h (omega arith) in
-    let v = rest-at 5 m s i 4 0 h (omega arith) in
+    let e : cellWidth * i + 0 ≡ cellWidth * i = omega arith in
+    let g = word-at cellWidth m s i 0 h (omega arith) ∙ ap (λ (n : ℕ). getD s n 0) e in
+    let z = word-at cellWidth m s i 1 h (omega arith) in
+    let y = word-at cellWidth m s i 2 h (omega arith) in
+    let x = word-at cellWidth m s i 3 h (omega arith) in
+    let v = rest-at cellWidth m s i cellMask 0 h (omega arith) in
     λ t. (record { grid = g t; z = z t; y = y t; x = x t }, v t))
 
 -- The bit by its three steps.

@@ -1,5 +1,7 @@
 // Whether each mask has exactly the bits of touching occupied cells.
 use component::Cell;
+use layout::CELL_MASK;
+use layout::CELL_WIDTH;
 use table::cell_at;
 ghost use mathlib.Core.Path.{_≡_};
 ghost use mathlib.Core.Bool.{true};
@@ -11,6 +13,7 @@ ghost use Rattle.model.specs.Cells.{touch26};
 ghost use Rattle.model.specs.Masks.{maskOf};
 ghost use Rattle.model.specs.Places.{slot};
 ghost use Rattle.table.specs.Rows.{table4, isTable4};
+ghost use Rattle.layout.specs.Widths.{cellWidth};
 ghost use Rattle.layout.specs.Rows.{cellsIn};
 ghost use Rattle.masks_check.specs.Rows.{rowRight};
 
@@ -45,13 +48,13 @@ fn slot_of(c: Cell, d: Cell) -> u64
 
 // The mask of c among the cells of m rows, by a look at each of them, whatever its coordinates.
 fn scanned(cells: &[u64], m: usize, c: Cell) -> u64
-    requires { ⌜ 5 * m ≤ length (now cells) ⌝ }
-    ensures { λ r. ⌜ r ≡ maskOf touch26 (keys (table4 5 m (now (cells .entry)))) c ⌝ }
+    requires { ⌜ cellWidth * m ≤ length (now cells) ⌝ }
+    ensures { λ r. ⌜ r ≡ maskOf touch26 (keys (table4 cellWidth m (now (cells .entry)))) c ⌝ }
 {
     let mut bits = 0;
     let mut i = 0;
     while i < m {
-        let d = cell_at(cells, 5 * i);
+        let d = cell_at(cells, CELL_WIDTH * i);
         if component::touching(c, d) {
             bits = mask::set(bits, slot_of(c, d));
             i += 1;
@@ -64,8 +67,8 @@ fn scanned(cells: &[u64], m: usize, c: Cell) -> u64
 
 // The mask of c among the cells of m rows.
 fn mask_of(cells: &[u64], m: usize, c: Cell) -> u64
-    requires { ⌜ isTable4 5 m (now cells) ≡ true ⌝ }
-    ensures { λ r. ⌜ r ≡ maskOf touch26 (keys (table4 5 m (now (cells .entry)))) c ⌝ }
+    requires { ⌜ isTable4 cellWidth m (now cells) ≡ true ⌝ }
+    ensures { λ r. ⌜ r ≡ maskOf touch26 (keys (table4 cellWidth m (now (cells .entry)))) c ⌝ }
 {
     if component::has_room(c, 1) {
         return map::note(cells, m, c);
@@ -75,13 +78,13 @@ fn mask_of(cells: &[u64], m: usize, c: Cell) -> u64
 
 // Whether the mask of each of m rows is right.
 pub fn masks_right(cells: &[u64], m: usize) -> bool
-    requires { ⌜ isTable4 5 m (now cells) ≡ true ⌝ }
-    ensures { λ r. ⌜ r ≡ all (rowRight (keys (table4 5 m (now (cells .entry))))) (cellsIn m (now (cells .entry))) ⌝ }
+    requires { ⌜ isTable4 cellWidth m (now cells) ≡ true ⌝ }
+    ensures { λ r. ⌜ r ≡ all (rowRight (keys (table4 cellWidth m (now (cells .entry))))) (cellsIn m (now (cells .entry))) ⌝ }
 {
     let mut i = 0;
     while i < m {
-        let c = cell_at(cells, 5 * i);
-        if cells[5 * i + 4] != mask_of(cells, m, c) {
+        let c = cell_at(cells, CELL_WIDTH * i);
+        if cells[CELL_WIDTH * i + CELL_MASK] != mask_of(cells, m, c) {
             return false;
         }
         i += 1;

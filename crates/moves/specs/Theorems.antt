@@ -19,6 +19,7 @@ use Rattle.metres.specs.declared.Placing.{Placing}
 use Rattle.metres.specs.declared.Answer.the-variants.{Event}
 use Rattle.metres.specs.Answer.{answer}
 use Rattle.metres.specs.Theorems.Events.{event-sound}
+use Rattle.layout.specs.Widths.{moveWidth}
 use Rattle.moves.specs.Words.{moveWords, moved, moveOf}
 use Rattle.moves.specs.Laws.Words.{move-there, moves-back, moves-in}
 
@@ -35,11 +36,11 @@ abbrev pub allIn : List Placing → Bool
 allIn es = all (λ (e : Placing). coordInRange (e .cell .coord)) es
 
 -- Where a move was put, it is read back: the event's entity goes to the event's cell.
-pub put-reads-back : (s : List ℕ) (at : ℕ) (e : Placing) → leb (at + 5) (length s) ≡ true → coordInRange (e .cell .coord) ≡ true → moveAt (moved s at e .1) at ≡ moveOf e
+pub put-reads-back : (s : List ℕ) (at : ℕ) (e : Placing) → leb (at + moveWidth) (length s) ≡ true → coordInRange (e .cell .coord) ≡ true → moveAt (moved s at e .1) at ≡ moveOf e
 unfolding moved
 put-reads-back s at e h k =
     ap (λ (t : Bool). moveAt (cond {A = ℕ × List ℕ} t (0, over s at (moveWords e)) (1, s) .1) at) h
-    ∙ move-there s at e (leb-true (at + 5) (length s) h) k
+    ∙ move-there s at e (leb-true (at + moveWidth) (length s) h) k
 
 -- A batch of removals and of the moves of events is read back as these.
 pub batch-reads-back : (removals : List ℕ) (es : List Placing) → allIn es ≡ true

@@ -7,8 +7,9 @@ use lib.ListN.{length}
 use Rattle.component.specs.Stored.{stored}
 use Rattle.model.specs.Cells.{Cell}
 use Rattle.table.specs.Moves.{over}
-use Rattle.map.specs.Answers.{answerWords}
+use Rattle.neighbourhood.specs.Answers.{answerWords}
 use Rattle.metres.specs.declared.Placing.{Placing}
+use Rattle.layout.specs.Widths.{moveWidth}
 
 -- The words of the move that an event makes: entity, grid, x, y, z.
 abbrev pub moveWords : Placing → List ℕ
@@ -16,7 +17,7 @@ moveWords e = e .entity ∷ answerWords (stored (e .cell))
 
 -- They are put at a place of a batch: 0, or 1 and the words as they were where the batch ends before.
 unfoldable pub moved : List ℕ → ℕ → Placing → ℕ × List ℕ
-moved s at e = cond (leb (at + 5) (length s)) (0, over s at (moveWords e)) (1, s)
+moved s at e = cond (leb (at + moveWidth) (length s)) (0, over s at (moveWords e)) (1, s)
 
 -- The move that an event makes: its entity goes to its cell.
 abbrev pub moveOf : Placing → ℕ × Cell

@@ -1,19 +1,21 @@
 // Events as moves: what a report makes, in the words of a batch.
+use layout::MOVE_WIDTH;
 use metres::Placing;
 ghost use mathlib.Core.Path.{_≡_};
 ghost use mathlib.Core.List.{List};
 ghost use Prim.Native.Nat.{ℕ, _+_};
 ghost use lib.Dec.{leb};
+ghost use Rattle.layout.specs.Widths.{moveWidth};
 ghost use Rattle.moves.specs.Words.{moved};
 
 // Whether five words from a place on lie within so many.
 fn has_room(len: usize, at: usize) -> bool
-    ensures { λ r. ⌜ r ≡ leb (at + 5) len ⌝ }
+    ensures { λ r. ⌜ r ≡ leb (at + moveWidth) len ⌝ }
 {
-    if len < 5 {
+    if len < MOVE_WIDTH {
         return false;
     }
-    at <= len - 5
+    at <= len - MOVE_WIDTH
 }
 
 // The move that an event makes stands at a place of a batch: 0; or 1, and nothing is written, where the batch ends before.
@@ -24,7 +26,7 @@ pub fn put_move(batch: &mut [u64], at: usize, e: Placing) -> u64
         return 1;
     }
     let mut words = [e.entity, 0, 0, 0, 0];
-    map::write_cell(&mut words, 1, component::stored(e.cell));
+    neighbourhood::write_cell(&mut words, 1, component::stored(e.cell));
     table::write_row(batch, at, &words);
     0
 }

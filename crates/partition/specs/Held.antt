@@ -10,7 +10,9 @@ use Rattle.model.specs.Lists.{each, gather, count, keys, get, put, has, only}
 use Rattle.model.specs.Cells.{Cell, same, below, cellInRange}
 use Rattle.model.specs.Groups.{Ids, Groups, Group, lower, higher, groupOf, largestGroup, merge}
 use Rattle.model.specs.Laws.Sorted.{Asc}
-use Rattle.table.specs.Rows.{cell, rowOf}
+use Rattle.component.specs.Stored.{storedByAxis}
+use Rattle.table.specs.Rows.{cell, cellAt, rowOf}
+use Rattle.layout.specs.Widths.{idWidth, cellId, netWidth, groupWidth, groupGrid, groupCells, groupLow, groupHigh}
 use Rattle.layout.specs.Rows.{idRow, idsImage, groupsImage, netImage, neighbourOf}
 
 -- The words hold n cells with ids, ascending.
@@ -18,7 +20,7 @@ pub record HeldTable (words : List ℕ) (n : ℕ) (t : Ids) : Type 0 where
   pub image : words ≡ idsImage (length words) t
   pub count : n ≡ length t
   pub asc : Asc below (keys t)
-  pub fits : 5 * n ≤ length words
+  pub fits : idWidth * n ≤ length words
 
 -- The words hold n cells with ids, ascending, in range.
 pub record HeldRows (words : List ℕ) (n : ℕ) (t : Ids) : Type 0 where
@@ -26,7 +28,7 @@ pub record HeldRows (words : List ℕ) (n : ℕ) (t : Ids) : Type 0 where
   pub count : n ≡ length t
   pub asc : Asc below (keys t)
   pub ranged : (c : Cell) → Mem c (keys t) → T (cellInRange c)
-  pub fits : 5 * n ≤ length words
+  pub fits : idWidth * n ≤ length words
 
 -- The words hold the groups, and `next` is their next id.
 pub record HeldIds (words : List ℕ) (n next : ℕ) (s : Groups) : Type 0 where
@@ -39,14 +41,14 @@ pub record HeldCells (words : List ℕ) (m : ℕ) (l : List Cell) : Type 0 where
   pub count : m ≡ length l
   pub asc : Asc below l
   pub ranged : (c : Cell) → Mem c l → T (cellInRange c)
-  pub fits : 4 * m ≤ length words
+  pub fits : netWidth * m ≤ length words
 
 -- The words hold k group records, ascending by id.
 pub record HeldGroups (words : List ℕ) (k : ℕ) (l : List (ℕ × Group)) : Type 0 where
   pub image : words ≡ groupsImage (length words) l
   pub count : k ≡ length l
   pub asc : Asc ltb (keys l)
-  pub fits : 9 * k ≤ length words
+  pub fits : groupWidth * k ≤ length words
 
 -- A group with one cell more; the group of that cell alone where there was none.
 abbrev pub grown : Option Group → Cell → Group
@@ -57,12 +59,18 @@ grown (some r) c = record { grid = r .grid; count = suc (r .count); low = lower 
 abbrev pub fewCells : List (ℕ × Group) → Type 0
 fewCells l = (q : ℕ × Group) → Mem q l → q .1 .count < 9223372036854775808
 
+-- A corner of the record that stands at a place, as a cell of the group's grid; its coordinates stand from `first` on.
+abbrev pub cornerCell : List ℕ → ℕ → ℕ → Cell
+cornerCell s at first =
+    record { grid = getD s (at + groupGrid) 0; z = getD s (at + (first + 2)) 0; y = getD s (at + (first + 1)) 0; x = getD s (at + first) 0 }
+
 -- The words of the record that stands at a place, with one cell more.
 abbrev pub grownWords : List ℕ → ℕ → Cell → List ℕ
 grownWords s at c =
-    getD s at 0 ∷ getD s (at + 1) 0 ∷ (getD s (at + 2) 0 + 1)
-    ∷ min (getD s (at + 3) 0) (c .x) ∷ min (getD s (at + 4) 0) (c .y) ∷ min (getD s (at + 5) 0) (c .z)
-    ∷ max (getD s (at + 6) 0) (c .x) ∷ max (getD s (at + 7) 0) (c .y) ∷ max (getD s (at + 8) 0) (c .z) ∷ []
+    let low : Cell = storedByAxis min (cornerCell s at groupLow) c in
+    let high : Cell = storedByAxis max (cornerCell s at groupHigh) c in
+    getD s at 0 ∷ getD s (at + groupGrid) 0 ∷ (getD s (at + groupCells) 0 + 1)
+    ∷ low .x ∷ low .y ∷ low .z ∷ high .x ∷ high .y ∷ high .z ∷ []
 
 -- The first k neighbours of a cell.
 unfoldable pub tried : Cell → ℕ → List Cell
@@ -81,6 +89,10 @@ idsAt t l = gather (λ d. listOf (get same t d)) l
 unfoldable pub joined : Ids → Cell → List ℕ → Ids
 joined t c l = merge (largestGroup (put below c (getD l 0 0) t) (getD l 0 0) (drop 1 l)) l (put below c (getD l 0 0) t)
 
+-- Row i of words: the cell and its id.
+abbrev pub rowIn : List ℕ → ℕ → Cell × ℕ
+rowIn words i = (cellAt words (idWidth * i), getD words (idWidth * i + cellId) 0)
+
 -- The words of rows.
 abbrev pub wordsOf : Ids → List ℕ
 wordsOf t = gather (rowOf cell) (each idRow t)
@@ -89,7 +101,7 @@ wordsOf t = gather (rowOf cell) (each idRow t)
 abbrev pub stay : List Cell → Ids → Ids
 stay l t = only (λ c. not (has same l c)) t
 
--- The first i rows are sifted: those that stay fill the first j rows, and from row i on the words are as they were.
-pub record Sifted (words₀ words : List ℕ) (i j : ℕ) (l : List Cell) (t : Ids) : Type 0 where
+-- The first i rows are sifted: those of them that stay fill the first j rows.
+pub record Sifted (words : List ℕ) (i j : ℕ) (l : List Cell) (t : Ids) : Type 0 where
   pub count : j ≡ length (stay l (take i t))
-  pub front : take (5 * j) words ≡ wordsOf (stay l (take i t))
+  pub front : take (idWidth * j) words ≡ wordsOf (stay l (take i t))

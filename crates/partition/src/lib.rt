@@ -1,69 +1,81 @@
 // Groups of touching cells: the cells that have an id, row by row in lent words, and the rules that keep them.
 use component::Cell;
+use layout::CELL_ID;
+use layout::GROUP_CELLS;
+use layout::GROUP_GRID;
+use layout::GROUP_HIGH;
+use layout::GROUP_LOW;
+use layout::GROUP_WIDTH;
+use layout::ID_WIDTH;
+use layout::NET_WIDTH;
 use layout::neighbour_of;
 use table::Place;
 use table::cell_at;
+use table::contains;
 use table::find1;
-use table::find4;
 use table::find4_near;
 use table::index;
 use table::put1;
 use table::put4;
-use table::remove4;
 use table::write_row;
 use table::write_zeros;
 ghost use mathlib.Core.Path.{_≡_};
-ghost use Prim.Native.Nat.{ℕ, _+_, _*_, _<_, _≤_, min, max};
+ghost use Prim.Native.Nat.{ℕ, _+_, _*_, _<_, _≤_};
 ghost use mathlib.Core.List.{List, [], _∷_};
 ghost use lib.ListN.{length, getD, take, drop, replicate};
 ghost use Rattle.table.specs.Moves.{over};
 ghost use lib.Dec.{T, ltb, eqb};
-ghost use Rattle.model.specs.Lists.{all, has, get, put, dropKey, run};
-ghost use Rattle.model.specs.Cells.{Cell, same, below, cellInRange, touch26};
+ghost use Rattle.model.specs.Lists.{all, has, get, put, run};
+ghost use Rattle.model.specs.Cells.{Cell, below, cellInRange, touch26};
 ghost use Rattle.model.specs.Groups.{Ids, Groups, Group, size, largestGroup, merge, foundAt, rule1, rule2, records};
-ghost use Rattle.partition.specs.Held.{HeldTable, HeldRows, HeldIds, HeldCells, HeldGroups, grown, grownWords, fewCells, joined, Sifted};
+ghost use Rattle.layout.specs.Rows.{idsIn};
+ghost use Rattle.layout.specs.Widths.{idWidth, netWidth, groupWidth, groupCells};
+ghost use Rattle.partition.specs.Held.{HeldTable, HeldRows, HeldIds, HeldCells, HeldGroups, grown, cornerCell, grownWords, fewCells, joined, wordsOf, rowIn, Sifted};
 
-// The smaller of two numbers.
-fn lesser(a: u64, b: u64) -> u64
-    ensures { λ r. ⌜ r ≡ min a b ⌝ }
+// A corner of the group record at at, whose coordinates stand from first on, as a cell of the group's grid.
+fn corner_at(groups: &[u64], at: usize, first: usize) -> Cell
+    requires { ⌜ (at + groupWidth ≤ length (now groups)) × (first + 3 ≤ groupWidth) ⌝ }
+    ensures { λ r. ⌜ r ≡ cornerCell (now (groups .entry)) at first ⌝ }
 {
-    if a < b { a } else { b }
-}
-
-// The larger of two numbers.
-fn greater(a: u64, b: u64) -> u64
-    ensures { λ r. ⌜ r ≡ max a b ⌝ }
-{
-    if a < b { b } else { a }
+    Cell {
+        grid: groups[at + GROUP_GRID],
+        z: groups[at + (first + 2)],
+        y: groups[at + (first + 1)],
+        x: groups[at + first],
+    }
 }
 
 // The words of the group record at at, with the cell c more.
-fn grown_row(groups: &[u64], at: usize, c: Cell) -> [u64; 9]
-    requires { ⌜ (at + 9 ≤ length (now groups)) × (getD (now groups) (at + 2) 0 < 9223372036854775808) ⌝ }
+fn grown_row(groups: &[u64], at: usize, c: Cell) -> [u64; GROUP_WIDTH]
+    requires { ⌜ (at + groupWidth ≤ length (now groups)) × (getD (now groups) (at + groupCells) 0 < 9223372036854775808) ⌝ }
     ensures { λ r. ⌜ r ≡ grownWords (now (groups .entry)) at c ⌝ }
 {
+    let low = corner_at(groups, at, GROUP_LOW);
+    let high = corner_at(groups, at, GROUP_HIGH);
+    let lower = Cell::min(low, c);
+    let higher = Cell::max(high, c);
     [
         groups[at],
-        groups[at + 1],
-        groups[at + 2] + 1,
-        lesser(groups[at + 3], c.x),
-        lesser(groups[at + 4], c.y),
-        lesser(groups[at + 5], c.z),
-        greater(groups[at + 6], c.x),
-        greater(groups[at + 7], c.y),
-        greater(groups[at + 8], c.z),
+        groups[at + GROUP_GRID],
+        groups[at + GROUP_CELLS] + 1,
+        lower.x,
+        lower.y,
+        lower.z,
+        higher.x,
+        higher.y,
+        higher.z,
     ]
 }
 
 // The cell c is counted in the record of the group g; the answer is the new number of records.
 fn count_cell(groups: &mut [u64], k: usize, c: Cell, g: u64) -> usize
-    requires { ⌜ ((l : List (ℕ × Group)) × HeldGroups (now groups) k l × fewCells l × (9 * k + 9 ≤ length (now groups))) ⌝ }
+    requires { ⌜ ((l : List (ℕ × Group)) × HeldGroups (now groups) k l × fewCells l × (groupWidth * k + groupWidth ≤ length (now groups))) ⌝ }
     ensures { λ r. ⌜ ((l : List (ℕ × Group)) → HeldGroups (now (groups .entry)) k l → HeldGroups (now (groups .exit)) r (put ltb g (grown (get eqb l g) c) l)) ⌝ }
 {
-    let p = find1(groups, 9, k, g);
+    let p = find1(groups, GROUP_WIDTH, k, g);
     match p {
         Place::Found(i) => {
-            let row = grown_row(groups, 9 * i, c);
+            let row = grown_row(groups, GROUP_WIDTH * i, c);
             put1(groups, k, &row)
         }
         Place::Missing(_) => {
@@ -75,13 +87,18 @@ fn count_cell(groups: &mut [u64], k: usize, c: Cell, g: u64) -> usize
 
 // The group records of the cells with ids are written; the answer is their number.
 pub fn build_records(ids: &[u64], n: usize, groups: &mut [u64]) -> usize
-    requires { ⌜ ((t : Ids) × HeldTable (now ids) n t × (now groups ≡ replicate (length (now groups)) 0) × (9 * n ≤ length (now groups))) ⌝ }
+    requires { ⌜ ((t : Ids) × HeldTable (now ids) n t × (now groups ≡ replicate (length (now groups)) 0) × (groupWidth * n ≤ length (now groups))) ⌝ }
     ensures { λ r. ⌜ ((t : Ids) → HeldTable (now (ids .entry)) n t → HeldGroups (now (groups .exit)) r (records t)) ⌝ }
 {
     let mut k = 0;
     let mut i = 0;
     while i < n {
-        k = count_cell(groups, k, cell_at(ids, 5 * i), ids[5 * i + 4]);
+        k = count_cell(
+            groups,
+            k,
+            cell_at(ids, ID_WIDTH * i),
+            ids[ID_WIDTH * i + CELL_ID],
+        );
         i += 1;
     }
     k
@@ -90,17 +107,17 @@ pub fn build_records(ids: &[u64], n: usize, groups: &mut [u64]) -> usize
 // The ids at the neighbours of c, in order; the answer is their number.
 pub fn found_at(ids: &[u64], n: usize, c: Cell, found: &mut [u64]) -> usize
     requires { ⌜ ((t : Ids) × HeldRows (now ids) n t × T (cellInRange c) × (26 ≤ length (now found))) ⌝ }
-    ensures { λ r. ⌜ (r ≤ 26) × ((t : Ids) → HeldRows (now (ids .entry)) n t → take r (now (found .exit)) ≡ foundAt touch26 t c) ⌝ }
+    ensures { λ r. ⌜ (r ≤ 26) × ((t : Ids) → HeldRows (now (ids .entry)) n t → take r (now (found .exit)) ≡ foundAt touch26 t c) × (drop r (now (found .exit)) ≡ drop r (now (found .entry))) ⌝ }
 {
     let mut near = 0;
     let mut m = 0;
     let mut k: u64 = 0;
     while k < 26 {
-        let p = find4_near(ids, 5, n, neighbour_of(c, k + 1), near);
+        let p = find4_near(ids, ID_WIDTH, n, neighbour_of(c, k + 1), near);
         near = index(p);
         match p {
             Place::Found(i) => {
-                found[m] = ids[5 * i + 4];
+                found[m] = ids[ID_WIDTH * i + CELL_ID];
                 m += 1;
                 k += 1;
             }
@@ -113,14 +130,14 @@ pub fn found_at(ids: &[u64], n: usize, c: Cell, found: &mut [u64]) -> usize
 }
 
 // How many cells the group g has.
-pub fn group_size(ids: &[u64], n: usize, g: u64) -> usize
-    requires { ⌜ 5 * n ≤ length (now ids) ⌝ }
-    ensures { λ r. ⌜ ((t : Ids) → HeldRows (now (ids .entry)) n t → r ≡ size t g) ⌝ }
+fn group_size(ids: &[u64], n: usize, g: u64) -> usize
+    requires { ⌜ idWidth * n ≤ length (now ids) ⌝ }
+    ensures { λ r. ⌜ r ≡ size (idsIn n (now (ids .entry))) g ⌝ }
 {
     let mut m = 0;
     let mut i = 0;
     while i < n {
-        if ids[5 * i + 4] == g {
+        if ids[ID_WIDTH * i + CELL_ID] == g {
             m += 1;
             i += 1;
         } else {
@@ -131,9 +148,9 @@ pub fn group_size(ids: &[u64], n: usize, g: u64) -> usize
 }
 
 // The largest of the first k groups found; among equals the earliest.
-pub fn largest(ids: &[u64], n: usize, found: &[u64], k: usize) -> u64
-    requires { ⌜ (5 * n ≤ length (now ids)) × (1 ≤ k) × (k ≤ length (now found)) ⌝ }
-    ensures { λ r. ⌜ ((t : Ids) → HeldRows (now (ids .entry)) n t → r ≡ largestGroup t (getD (now (found .entry)) 0 0) (drop 1 (take k (now (found .entry))))) ⌝ }
+fn largest(ids: &[u64], n: usize, found: &[u64], k: usize) -> u64
+    requires { ⌜ (idWidth * n ≤ length (now ids)) × (1 ≤ k) × (k ≤ length (now found)) ⌝ }
+    ensures { λ r. ⌜ r ≡ largestGroup (idsIn n (now (ids .entry))) (getD (now (found .entry)) 0 0) (drop 1 (take k (now (found .entry)))) ⌝ }
 {
     let mut best = found[0];
     let mut j = 1;
@@ -166,14 +183,14 @@ fn is_found(found: &[u64], k: usize, g: u64) -> bool
 }
 
 // All of the first k groups found become the group `into`.
-pub fn merge(ids: &mut [u64], n: usize, found: &[u64], k: usize, into: u64)
-    requires { ⌜ (5 * n ≤ length (now ids)) × (k ≤ length (now found)) ⌝ }
+fn merge(ids: &mut [u64], n: usize, found: &[u64], k: usize, into: u64)
+    requires { ⌜ ((t : Ids) × HeldRows (now ids) n t × (k ≤ length (now found))) ⌝ }
     ensures { λ _. ⌜ ((t : Ids) → HeldRows (now (ids .entry)) n t → HeldRows (now (ids .exit)) n (merge into (take k (now (found .entry))) t)) ⌝ }
 {
     let mut i = 0;
     while i < n {
-        if is_found(found, k, ids[5 * i + 4]) {
-            ids[5 * i + 4] = into;
+        if is_found(found, k, ids[ID_WIDTH * i + CELL_ID]) {
+            ids[ID_WIDTH * i + CELL_ID] = into;
             i += 1;
         } else {
             i += 1;
@@ -182,20 +199,12 @@ pub fn merge(ids: &mut [u64], n: usize, found: &[u64], k: usize, into: u64)
 }
 
 // The cell c takes the id g; the answer is the new number of rows.
-pub fn push(ids: &mut [u64], n: usize, c: Cell, g: u64) -> usize
-    requires { ⌜ ((t : Ids) × HeldRows (now ids) n t × T (cellInRange c) × (5 * n + 5 ≤ length (now ids))) ⌝ }
+fn push(ids: &mut [u64], n: usize, c: Cell, g: u64) -> usize
+    requires { ⌜ ((t : Ids) × HeldRows (now ids) n t × T (cellInRange c) × (idWidth * n + idWidth ≤ length (now ids))) ⌝ }
     ensures { λ r. ⌜ (r ≤ n + 1) × ((t : Ids) → HeldRows (now (ids .entry)) n t → HeldRows (now (ids .exit)) r (put below c g t)) ⌝ }
 {
     let row = [c.grid, c.z, c.y, c.x, g];
     put4(ids, n, &row)
-}
-
-// The cell c has no id any more; the answer is the new number of rows.
-pub fn remove(ids: &mut [u64], n: usize, c: Cell) -> usize
-    requires { ⌜ ((t : Ids) × HeldRows (now ids) n t) ⌝ }
-    ensures { λ r. ⌜ (r ≤ n) × ((t : Ids) → HeldRows (now (ids .entry)) n t → HeldRows (now (ids .exit)) r (dropKey same c t)) ⌝ }
-{
-    remove4(ids, 5, n, c)
 }
 
 // How many rows there are, and the next id.
@@ -223,7 +232,7 @@ fn all_same(found: &[u64], k: usize) -> bool
 
 // The cell c joins the first of the k groups found, and all found merge; the answer is the new number of rows.
 fn join(ids: &mut [u64], n: usize, c: Cell, found: &[u64], k: usize) -> usize
-    requires { ⌜ ((t : Ids) × HeldRows (now ids) n t × T (cellInRange c) × (5 * n + 5 ≤ length (now ids)) × (1 ≤ k) × (k ≤ length (now found))) ⌝ }
+    requires { ⌜ ((t : Ids) × HeldRows (now ids) n t × T (cellInRange c) × (idWidth * n + idWidth ≤ length (now ids)) × (1 ≤ k) × (k ≤ length (now found))) ⌝ }
     ensures { λ r. ⌜ (r ≤ n + 1) × ((t : Ids) → HeldRows (now (ids .entry)) n t → HeldRows (now (ids .exit)) r (joined t c (take k (now (found .entry))))) ⌝ }
 {
     let r = push(ids, n, c, found[0]);
@@ -236,8 +245,8 @@ fn join(ids: &mut [u64], n: usize, c: Cell, found: &[u64], k: usize) -> usize
 }
 
 // Rule 1, for one newly occupied cell.
-pub fn rule1(ids: &mut [u64], n: usize, next: u64, c: Cell) -> Numbered
-    requires { ⌜ ((s : Groups) × HeldIds (now ids) n next s × T (cellInRange c) × (5 * n + 5 ≤ length (now ids)) × (next < 18446744073709551615)) ⌝ }
+fn rule1(ids: &mut [u64], n: usize, next: u64, c: Cell) -> Numbered
+    requires { ⌜ ((s : Groups) × HeldIds (now ids) n next s × T (cellInRange c) × (idWidth * n + idWidth ≤ length (now ids)) × (next < 18446744073709551615)) ⌝ }
     ensures { λ r. ⌜ (r .count ≤ n + 1) × (r .next ≤ next + 1) × ((s : Groups) → HeldIds (now (ids .entry)) n next s → HeldIds (now (ids .exit)) (r .count) (r .next) (rule1 touch26 s c)) ⌝ }
 {
     let mut found = [0; 26];
@@ -258,14 +267,14 @@ pub fn rule1(ids: &mut [u64], n: usize, next: u64, c: Cell) -> Numbered
 
 // Rule 1 for m newly occupied cells, in order.
 pub fn rules1(ids: &mut [u64], n: usize, next: u64, occupied: &[u64], m: usize) -> Numbered
-    requires { ⌜ ((s : Groups) × (l : List Cell) × HeldIds (now ids) n next s × HeldCells (now occupied) m l × (5 * n + 5 * m ≤ length (now ids)) × (next + m < 18446744073709551616)) ⌝ }
+    requires { ⌜ ((s : Groups) × (l : List Cell) × HeldIds (now ids) n next s × HeldCells (now occupied) m l × (idWidth * n + idWidth * m ≤ length (now ids)) × (next + m < 18446744073709551616)) ⌝ }
     ensures { λ r. ⌜ (r .count ≤ n + m) × (r .next ≤ next + m) × ((s : Groups) (l : List Cell) → HeldIds (now (ids .entry)) n next s → HeldCells (now (occupied .entry)) m l → HeldIds (now (ids .exit)) (r .count) (r .next) (run (rule1 touch26) s l)) ⌝ }
 {
     let mut count = n;
     let mut id = next;
     let mut i = 0;
     while i < m {
-        let r = rule1(ids, count, id, cell_at(occupied, 4 * i));
+        let r = rule1(ids, count, id, cell_at(occupied, NET_WIDTH * i));
         count = r.count;
         id = r.next;
         i += 1;
@@ -276,42 +285,25 @@ pub fn rules1(ids: &mut [u64], n: usize, next: u64, occupied: &[u64], m: usize) 
     }
 }
 
-// Whether the cell c is one of m cells.
-fn is_among(cells: &[u64], m: usize, c: Cell) -> bool
-    requires { ⌜ ((l : List Cell) × HeldCells (now cells) m l) ⌝ }
-    ensures { λ r. ⌜ ((l : List Cell) → HeldCells (now (cells .entry)) m l → r ≡ has same l c) ⌝ }
-{
-    let p = find4(cells, 4, m, c);
-    match p {
-        Place::Found(_) => true,
-        Place::Missing(_) => false,
-    }
-}
-
 // Row i is copied to row j.
 fn copy_row(ids: &mut [u64], i: usize, j: usize)
-    requires { ⌜ (j ≤ i) × (5 * i + 5 ≤ length (now ids)) ⌝ }
-    ensures { λ _. ⌜ now (ids .exit) ≡ over (now (ids .entry)) (5 * j) (getD (now (ids .entry)) (5 * i) 0 ∷ getD (now (ids .entry)) (5 * i + 1) 0 ∷ getD (now (ids .entry)) (5 * i + 2) 0 ∷ getD (now (ids .entry)) (5 * i + 3) 0 ∷ getD (now (ids .entry)) (5 * i + 4) 0 ∷ []) ⌝ }
+    requires { ⌜ (j ≤ i) × (idWidth * i + idWidth ≤ length (now ids)) ⌝ }
+    ensures { λ _. ⌜ now (ids .exit) ≡ over (now (ids .entry)) (idWidth * j) (wordsOf (rowIn (now (ids .entry)) i ∷ [])) ⌝ }
 {
-    let row = [
-        ids[5 * i],
-        ids[5 * i + 1],
-        ids[5 * i + 2],
-        ids[5 * i + 3],
-        ids[5 * i + 4],
-    ];
-    write_row(ids, 5 * j, &row);
+    let c = cell_at(ids, ID_WIDTH * i);
+    let row = [c.grid, c.z, c.y, c.x, ids[ID_WIDTH * i + CELL_ID]];
+    write_row(ids, ID_WIDTH * j, &row);
 }
 
 // The rows of cells that are not emptied are moved to the front; the answer is their number.
 fn sift(ids: &mut [u64], n: usize, emptied: &[u64], m: usize) -> usize
     requires { ⌜ ((t : Ids) × (l : List Cell) × HeldRows (now ids) n t × HeldCells (now emptied) m l) ⌝ }
-    ensures { λ r. ⌜ (r ≤ n) × (drop (5 * n) (now (ids .exit)) ≡ drop (5 * n) (now (ids .entry))) × ((t : Ids) (l : List Cell) → HeldRows (now (ids .entry)) n t → HeldCells (now (emptied .entry)) m l → Sifted (now (ids .entry)) (now (ids .exit)) n r l t) ⌝ }
+    ensures { λ r. ⌜ (r ≤ n) × (drop (idWidth * r) (now (ids .exit)) ≡ drop (idWidth * r) (now (ids .entry))) × ((t : Ids) (l : List Cell) → HeldRows (now (ids .entry)) n t → HeldCells (now (emptied .entry)) m l → Sifted (now (ids .exit)) n r l t) ⌝ }
 {
     let mut j = 0;
     let mut i = 0;
     while i < n {
-        if is_among(emptied, m, cell_at(ids, 5 * i)) {
+        if contains(emptied, NET_WIDTH, m, cell_at(ids, ID_WIDTH * i)) {
             i += 1;
         } else {
             copy_row(ids, i, j);
@@ -328,6 +320,6 @@ pub fn rule2(ids: &mut [u64], n: usize, emptied: &[u64], m: usize) -> usize
     ensures { λ r. ⌜ (r ≤ n) × ((next : ℕ) (s : Groups) (l : List Cell) → HeldIds (now (ids .entry)) n next s → HeldCells (now (emptied .entry)) m l → HeldIds (now (ids .exit)) r next (rule2 touch26 l s)) ⌝ }
 {
     let r = sift(ids, n, emptied, m);
-    write_zeros(ids, 5 * r, 5 * (n - r));
+    write_zeros(ids, ID_WIDTH * r, ID_WIDTH * (n - r));
     r
 }

@@ -7,11 +7,12 @@ use lib.Dec.{eqb}
 use lib.ListN.{length, getD}
 use Rattle.model.specs.Lists.{all, count}
 use Rattle.model.specs.Consistent.{agree}
-use Rattle.map.specs.Standing.{Stands}
+use Rattle.layout.specs.Widths.{idWidth, cellId}
+use Rattle.neighbourhood.specs.Standing.{HasTable}
 
 -- The id of row i.
 abbrev pub idAt : List ℕ → ℕ → ℕ
-idAt ids i = getD ids (5 * i + 4) 0
+idAt ids i = getD ids (idWidth * i + cellId) 0
 
 -- Whether two rows have one id exactly if they have one mark.
 abbrev pub agreeAt : List ℕ → List ℕ → ℕ → ℕ → Bool
@@ -23,7 +24,7 @@ firstAgrees ids m marks i = not (eqb (getD marks i 0) (i + 1)) || all (agreeAt i
 
 -- What marking the parts asks: some table in the words, space, and marks that are not set.
 pub record Partable (words : List ℕ) (n : ℕ) (marks queue : List ℕ) : Type 0 where
-  pub stands : Stands words n
+  pub stands : HasTable words n
   pub marksFit : n ≤ length marks
   pub queueFits : n ≤ length queue
   pub clear : (j : ℕ) → j < n → getD marks j 0 ≡ 0

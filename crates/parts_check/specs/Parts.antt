@@ -6,7 +6,7 @@ use lib.ListN.{getD}
 use Rattle.model.specs.Lists.{keys}
 use Rattle.model.specs.Cells.{Cell, touch26}
 use Rattle.model.specs.Paths.{Joined}
-use Rattle.map.specs.Rows.{rowCell}
+use Rattle.neighbourhood.specs.Rows.{rowCell}
 
 -- Whether a path of occupied cells joins row i to row j.
 abbrev pub Linked : List ℕ → List (Cell × ℕ) → ℕ → ℕ → Type 0

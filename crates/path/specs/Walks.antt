@@ -10,9 +10,10 @@ use lib.ListN.{length, getD}
 use Rattle.model.specs.Lists.{keep, each, keys}
 use Rattle.model.specs.Cells.{Cell, touch26}
 use Rattle.model.specs.Shortest.{shownPath}
-use Rattle.map.specs.Rows.{rowCell, onward}
-use Rattle.map.specs.Standing.{Cells, Stands, Levels}
-use Rattle.map.specs.Answers.{filled}
+use Rattle.neighbourhood.specs.Rows.{rowCell, onward}
+use Rattle.neighbourhood.specs.Standing.{Cells, HasTable, Levels}
+use Rattle.neighbourhood.specs.Answers.{filled}
+use Rattle.layout.specs.Widths.{answerWidth}
 
 -- The first of some rows, or the given row if there is none.
 abbrev pub firstRow : ℕ → List ℕ → ℕ
@@ -44,19 +45,19 @@ walkCells words n marks i = each (rowCell words) (walkRows words n marks (getD m
 
 -- What a step from row i asks: the occupied cells, a row that is there and marked, and a mark for each row.
 pub record Steppable (words : List ℕ) (n : ℕ) (marks : List ℕ) (i : ℕ) : Type 0 where
-  pub stands : Stands words n
+  pub stands : HasTable words n
   pub there : i < n
   pub marked : 0 < getD marks i 0
   pub fits : n ≤ length marks
 
 -- What the walk from one row to another asks: the occupied cells, the marks of a wave from the other row, and space.
 pub record Walkable (words : List ℕ) (n : ℕ) (marks : List ℕ) (from to : ℕ) (answer : List ℕ) : Type 0 where
-  pub stands : Stands words n
+  pub stands : HasTable words n
   pub starts : from < n
   pub ends : to < n
   pub levels : Levels words n to marks
   pub fits : n ≤ length marks
-  pub space : 4 * getD marks from 0 ≤ length answer
+  pub space : answerWidth * getD marks from 0 ≤ length answer
 
 -- The cells of a path, and none of no path.
 abbrev pub cellsOf : Option (List Cell) → List Cell

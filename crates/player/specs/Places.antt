@@ -1,5 +1,6 @@
 -- Where reading and writing stand in their buffers.
 use Prim.Native.Nat.{ℕ, _+_, _≤_}
+use Rattle.model.specs.Update.{mostEvents}
 use Rattle.player.specs.declared.reading.Reader.{Reader}
 use Rattle.player.specs.declared.reading.Events.{Events}
 use Rattle.player.specs.declared.reading.Gathered.{Gathered}
@@ -11,7 +12,7 @@ Reads n r = (r .at ≤ r .end) × (r .end ≤ n)
 
 -- No more events are kept than a batch may have.
 abbrev pub Counts : Events → Type 0
-Counts v = v .removals + v .moves ≤ 1024
+Counts v = v .removals + v .moves ≤ mostEvents
 
 -- Both, of what is read of a batch.
 abbrev pub Gathers : ℕ → Gathered → Type 0

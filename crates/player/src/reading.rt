@@ -1,4 +1,6 @@
 // The records of a batch are read from standard input.
+use layout::MOST_EVENTS;
+use layout::MOVE_WIDTH;
 use libc::STDIN_FILENO;
 use script::Moved;
 use script::Step;
@@ -9,6 +11,9 @@ ghost use Prim.Native.Nat.{_+_, _≤_};
 ghost use lib.ListN.{length};
 ghost use Rattle.script.specs.Records.{stepLen};
 ghost use Rattle.player.specs.Places.{Reads, Counts, Gathers};
+
+// How many words the moves of a batch have at most.
+pub const MOVES_LEN: usize = MOVE_WIDTH * MOST_EVENTS;
 
 // Bytes `at` to `end` of the buffer are still to be read; the buffer's first byte is number `base` of the input; `last` says that the
 // input has no bytes behind the buffer's.
@@ -123,13 +128,13 @@ fn refill(input: &mut [u8], r: Reader) -> Reader
 }
 
 // A removal is kept where there is room for it.
-fn add_removal(removals: &mut [u64; 1024], v: Events, entity: u64) -> Events
+fn add_removal(removals: &mut [u64; MOST_EVENTS], v: Events, entity: u64) -> Events
     requires { ⌜ Counts v ⌝ }
     ensures { λ r. ⌜ Counts r ⌝ }
 {
     let n = v.removals;
     let m = v.moves;
-    if n + m >= 1024 {
+    if n + m >= MOST_EVENTS {
         return Events {
             removals: n,
             moves: m,
@@ -145,24 +150,24 @@ fn add_removal(removals: &mut [u64; 1024], v: Events, entity: u64) -> Events
 }
 
 // A move is kept, in five words, where there is room for it.
-fn add_move(moves: &mut [u64; 5120], v: Events, to: Moved) -> Events
+fn add_move(moves: &mut [u64; MOVES_LEN], v: Events, to: Moved) -> Events
     requires { ⌜ Counts v ⌝ }
     ensures { λ r. ⌜ Counts r ⌝ }
 {
     let n = v.removals;
     let m = v.moves;
-    if n + m >= 1024 {
+    if n + m >= MOST_EVENTS {
         return Events {
             removals: n,
             moves: m,
             over: true,
         };
     }
-    moves[5 * m] = to.entity;
-    moves[5 * m + 1] = to.grid;
-    moves[5 * m + 2] = to.x;
-    moves[5 * m + 3] = to.y;
-    moves[5 * m + 4] = to.z;
+    moves[MOVE_WIDTH * m] = to.entity;
+    moves[MOVE_WIDTH * m + 1] = to.grid;
+    moves[MOVE_WIDTH * m + 2] = to.x;
+    moves[MOVE_WIDTH * m + 3] = to.y;
+    moves[MOVE_WIDTH * m + 4] = to.z;
     Events {
         removals: n,
         moves: m + 1,
@@ -173,8 +178,8 @@ fn add_move(moves: &mut [u64; 5120], v: Events, to: Moved) -> Events
 // One record is read, or more bytes are.
 fn take(
     input: &mut [u8],
-    removals: &mut [u64; 1024],
-    moves: &mut [u64; 5120],
+    removals: &mut [u64; MOST_EVENTS],
+    moves: &mut [u64; MOVES_LEN],
     g: Gathered,
 ) -> Gathered
     requires { ⌜ Gathers (length (now input)) g ⌝ }
@@ -232,8 +237,8 @@ fn is_reading(g: Gathered) -> bool {
 // The records of a batch are read. The turns are counted down from a number that no input uses up, so the loop is seen to end.
 pub fn gather(
     input: &mut [u8],
-    removals: &mut [u64; 1024],
-    moves: &mut [u64; 5120],
+    removals: &mut [u64; MOST_EVENTS],
+    moves: &mut [u64; MOVES_LEN],
     r: Reader,
 ) -> Gathered
     requires { ⌜ Reads (length (now input)) r ⌝ }

@@ -2,6 +2,9 @@
 // cell and its group.
 mod telling;
 
+use layout::MOST_EVENTS;
+use layout::MOVE_WIDTH;
+use layout::STATE_LEN;
 use metres::Answer;
 use metres::Frame;
 use metres::Report;
@@ -14,11 +17,11 @@ fn add_move(batch: &mut [u64], moves: usize, entity: u64, report: Report) -> usi
         z: 0.0,
         edge: 2.0,
     };
-    let n = moves % 1024;
+    let n = moves % MOST_EVENTS;
     match metres::event_of(frame, report, entity, 1) {
         Answer::Event(e) => {
             telling::event(entity, e.cell);
-            if moves::put_move(batch, 5 * n, e) != 0 {
+            if moves::put_move(batch, MOVE_WIDTH * n, e) != 0 {
                 return n;
             }
             n + 1
@@ -73,8 +76,8 @@ fn third(state: &mut [u64], batch: &mut [u64]) {
 }
 
 fn main() {
-    let mut state = [0u64; 48136];
-    let mut batch = [0u64; 25];
+    let mut state = [0u64; STATE_LEN];
+    let mut batch = [0u64; 5 * MOVE_WIDTH];
     let zero = 0.0;
     yard::fresh(&mut state, 0);
     first(&mut state, &mut batch, 0.0 / zero);

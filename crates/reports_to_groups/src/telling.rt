@@ -1,9 +1,9 @@
 // What is told of reports, batches and entities, a line each.
+use ask::IdOf;
+use ask::Where;
 use component::CellId;
 use libc::STDOUT_FILENO;
 use refusal::Refusal;
-use yard::IdOf;
-use yard::Where;
 
 fn say(text: &[u8]) {
     io::write_all(STDOUT_FILENO, text);
@@ -58,7 +58,7 @@ pub fn batch(moves: u64, code: u64) {
 
 // Where an entity stands, and the id of its group.
 pub fn stands(state: &[u64], entity: u64) {
-    match yard::where_is(state, entity) {
+    match ask::where_is(state, entity) {
         Where::Found(c) => {
             number(b"entity ", entity);
             cell(c);
@@ -73,7 +73,7 @@ pub fn stands(state: &[u64], entity: u64) {
 }
 
 fn group(state: &[u64], c: CellId) {
-    match yard::id_of(state, c) {
+    match ask::id_of(state, c) {
         IdOf::Found(id) => {
             number(b" group ", id);
             say(b"\n");

@@ -1,3 +1,4 @@
 pub mod Lines
 pub mod Records
 pub mod Laws
+pub mod Theorems

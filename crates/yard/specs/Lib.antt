@@ -1,7 +1,5 @@
 pub mod Update
-pub mod Playing
-pub mod Known
-pub mod Steps
+pub mod Numbers
 pub mod Runs
 pub mod Laws
 pub mod Theorems

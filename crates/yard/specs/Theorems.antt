@@ -1,4 +1,5 @@
 pub mod Calls
 pub mod Unique
+pub mod Exactly
 pub mod Grouping
 pub mod Isolation

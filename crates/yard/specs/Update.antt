@@ -1,18 +1,13 @@
 -- What `update` answers and leaves.
 use Prim.Native.Nat.{ℕ}
 use mathlib.Core.Bool.{cond, not}
-use mathlib.Core.List.{List, _++_}
-use lib.Dec.{eqb}
-use lib.ListN.{drop}
+use mathlib.Core.List.{List}
 use Rattle.model.specs.Cells.{touch26}
-use Rattle.model.specs.Update.{State, update}
-use Rattle.layout.specs.State.{stateLen, encode, decode}
+use Rattle.model.specs.Update.{update}
+use Rattle.layout.specs.State.{decode}
 use Rattle.layout.specs.Points.{consistentWords}
 use Rattle.batch.specs.Words.{batchOf, tooShort}
-
--- The number of an update, and the words it leaves: those of the state after it where it is done, else those that were there.
-unfoldable pub done : List ℕ → ℕ × State → ℕ × List ℕ
-done w p = (p .0, cond (eqb (p .0) 0) (encode (p .1) ++ drop stateLen w) w)
+use Rattle.updating.specs.Done.{done}
 
 -- 1 where the words are too few, 2 where the state is not consistent, and both leave the words as found; else the number of the
 -- model's update and what it leaves.

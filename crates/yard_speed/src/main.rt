@@ -4,8 +4,16 @@
 mod events;
 mod work;
 
+use layout::CELL_COUNT;
+use layout::EMPTIED_COUNT;
+use layout::ENTITY_COUNT;
+use layout::GROUP_COUNT;
+use layout::NEXT_ID;
+use layout::OCCUPIED_COUNT;
+use layout::STATE_LEN;
 use libc::STDIN_FILENO;
 use libc::STDOUT_FILENO;
+use work::BATCH_LEN;
 
 // A line of the input: its letter, its count, and where the next line starts.
 struct Task {
@@ -55,17 +63,17 @@ fn say(text: &[u8], n: u64) {
 }
 
 // What the header of a state counts, and its next id.
-fn say_header(state: &[u64; 48136]) {
-    say(b", entities ", state[0]);
-    say(b", cells ", state[1]);
-    say(b", new ", state[2]);
-    say(b", left ", state[3]);
-    say(b", groups ", state[5]);
-    say(b", next id ", state[6]);
+fn say_header(state: &[u64; STATE_LEN]) {
+    say(b", entities ", state[ENTITY_COUNT]);
+    say(b", cells ", state[CELL_COUNT]);
+    say(b", new ", state[OCCUPIED_COUNT]);
+    say(b", left ", state[EMPTIED_COUNT]);
+    say(b", groups ", state[GROUP_COUNT]);
+    say(b", next id ", state[NEXT_ID]);
 }
 
 // A task is done, and told in a line.
-fn do_task(state: &mut [u64; 48136], batch: &mut [u64; 5120], t: Task) {
+fn do_task(state: &mut [u64; STATE_LEN], batch: &mut [u64; BATCH_LEN], t: Task) {
     let letter = t.letter;
     let count = t.count;
     let accepted = work::run_all(state, batch, letter, count);
@@ -78,7 +86,7 @@ fn do_task(state: &mut [u64; 48136], batch: &mut [u64; 5120], t: Task) {
 }
 
 // All lines are done. Each takes a byte at least, so no input has more lines than the turns that are counted down.
-fn do_all(state: &mut [u64; 48136], batch: &mut [u64; 5120], text: &[u8; 4096]) {
+fn do_all(state: &mut [u64; STATE_LEN], batch: &mut [u64; BATCH_LEN], text: &[u8; 4096]) {
     let mut at = 0;
     let mut turns: u64 = 4096;
     while turns > 0 {
@@ -95,7 +103,7 @@ fn do_all(state: &mut [u64; 48136], batch: &mut [u64; 5120], text: &[u8; 4096]) 
 fn main() {
     let mut text = [0u8; 4096];
     io::read_full(STDIN_FILENO, &mut text);
-    let mut state = [0u64; 48136];
-    let mut batch = [0u64; 5120];
+    let mut state = [0u64; STATE_LEN];
+    let mut batch = [0u64; BATCH_LEN];
     do_all(&mut state, &mut batch, &text);
 }

@@ -5,11 +5,17 @@ use crate::events::home;
 use crate::events::walk;
 use consistent::consistent;
 use fresh::fresh;
+use layout::MOST_EVENTS;
+use layout::MOVE_WIDTH;
+use layout::STATE_LEN;
 use yard::update;
 
+// How many words the moves of a batch have at most.
+pub const BATCH_LEN: usize = MOVE_WIDTH * MOST_EVENTS;
+
 // A move is written as event i of a batch.
-fn put_move(batch: &mut [u64; 5120], i: u64, m: Move) {
-    let at = 5 * (i % 1024) as usize;
+fn put_move(batch: &mut [u64; BATCH_LEN], i: u64, m: Move) {
+    let at = MOVE_WIDTH * (i % 1024) as usize;
     batch[at] = m.entity;
     batch[at + 1] = 1;
     batch[at + 2] = m.x;
@@ -18,7 +24,7 @@ fn put_move(batch: &mut [u64; 5120], i: u64, m: Move) {
 }
 
 // The first moves of n entities are written as a batch.
-fn put_homes(batch: &mut [u64; 5120], from: u64, n: u64, is_full: bool) {
+fn put_homes(batch: &mut [u64; BATCH_LEN], from: u64, n: u64, is_full: bool) {
     let mut i = 0;
     while i < n {
         put_move(batch, i, home(std::num::wrapping_add_u64(from, i), is_full));
@@ -27,7 +33,7 @@ fn put_homes(batch: &mut [u64; 5120], from: u64, n: u64, is_full: bool) {
 }
 
 // The 1,024 events of batch j are written.
-fn put_events(batch: &mut [u64; 5120], j: u64, is_full: bool) {
+fn put_events(batch: &mut [u64; BATCH_LEN], j: u64, is_full: bool) {
     let mut i = 0;
     while i < 1024 {
         put_move(batch, i, event(i, j, is_full));
@@ -36,13 +42,19 @@ fn put_events(batch: &mut [u64; 5120], j: u64, is_full: bool) {
 }
 
 // The first moves of n entities are played.
-fn set_some(state: &mut [u64; 48136], batch: &mut [u64; 5120], from: u64, n: u64, is_full: bool) {
+fn set_some(
+    state: &mut [u64; STATE_LEN],
+    batch: &mut [u64; BATCH_LEN],
+    from: u64,
+    n: u64,
+    is_full: bool,
+) {
     put_homes(batch, from, n, is_full);
     update(state, batch, 0, n);
 }
 
 // The yard with all its entities.
-fn set_up(state: &mut [u64; 48136], batch: &mut [u64; 5120], is_full: bool) {
+fn set_up(state: &mut [u64; STATE_LEN], batch: &mut [u64; BATCH_LEN], is_full: bool) {
     fresh(state, 0);
     if !is_full {
         set_some(state, batch, 0, 256, false);
@@ -55,24 +67,34 @@ fn set_up(state: &mut [u64; 48136], batch: &mut [u64; 5120], is_full: bool) {
 }
 
 // Batch j of one event; the number given back.
-fn run_one(state: &mut [u64; 48136], batch: &mut [u64; 5120], j: u64, is_full: bool) -> u64 {
+fn run_one(
+    state: &mut [u64; STATE_LEN],
+    batch: &mut [u64; BATCH_LEN],
+    j: u64,
+    is_full: bool,
+) -> u64 {
     put_move(batch, 0, walk(j, is_full));
     update(state, batch, 0, 1)
 }
 
 // Batch j of 1,024 events; the number given back.
-fn run_many(state: &mut [u64; 48136], batch: &mut [u64; 5120], j: u64, is_full: bool) -> u64 {
+fn run_many(
+    state: &mut [u64; STATE_LEN],
+    batch: &mut [u64; BATCH_LEN],
+    j: u64,
+    is_full: bool,
+) -> u64 {
     put_events(batch, j, is_full);
     update(state, batch, 0, 1024)
 }
 
 // A test of consistency, as the number that an update would give back.
-fn test(state: &[u64; 48136]) -> u64 {
+fn test(state: &[u64; STATE_LEN]) -> u64 {
     if consistent(state) { 0 } else { 2 }
 }
 
 // What a letter asks for, once; the number given back, and 9 for another letter.
-fn run(state: &mut [u64; 48136], batch: &mut [u64; 5120], letter: u8, j: u64) -> u64 {
+fn run(state: &mut [u64; STATE_LEN], batch: &mut [u64; BATCH_LEN], letter: u8, j: u64) -> u64 {
     match letter {
         b'f' => run_one(state, batch, j, true),
         b'F' => run_many(state, batch, j, true),
@@ -84,7 +106,12 @@ fn run(state: &mut [u64; 48136], batch: &mut [u64; 5120], letter: u8, j: u64) ->
 }
 
 // What a letter asks for is done that often, in a yard of its own; how many were accepted.
-pub fn run_all(state: &mut [u64; 48136], batch: &mut [u64; 5120], letter: u8, count: u64) -> u64 {
+pub fn run_all(
+    state: &mut [u64; STATE_LEN],
+    batch: &mut [u64; BATCH_LEN],
+    letter: u8,
+    count: u64,
+) -> u64 {
     set_up(state, batch, letter != b's' && letter != b'S');
     let mut accepted: u64 = 0;
     let mut j = 0;
@@ -100,10 +127,10 @@ pub fn run_all(state: &mut [u64; 48136], batch: &mut [u64; 5120], letter: u8, co
 }
 
 // A number that all words of the state have a part in.
-pub fn checksum(state: &[u64; 48136]) -> u64 {
+pub fn checksum(state: &[u64; STATE_LEN]) -> u64 {
     let mut sum: u64 = 0;
     let mut i = 0;
-    while i < 48136 {
+    while i < STATE_LEN {
         sum = sum % 36_028_797_018_963_913 * 257 + state[i] % 4_611_686_018_427_387_904;
         i += 1;
     }

@@ -2,7 +2,7 @@
 use mathlib.Core.Bool.{cond}
 use mathlib.Core.Path.{_∙_, sym, ap}
 use borrow.Author.Needs.{needs}
-use Rattle.ask.specs.Laws.Paths.{first-way, second-way}
+use Rattle.ask.specs.Laws.Ways.{first-way, second-way}
 use Rattle.ask.proofs.cells_refused.Statement.{statement}
 use Rattle.ask.proofs.cells_refused.Tie as tie
 

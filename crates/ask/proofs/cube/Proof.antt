@@ -3,6 +3,7 @@ use native.Mathlib.Omega.{arith}
 use mathlib.Core.Bool.{true}
 use mathlib.Core.Path.{_≡_, _∙_, sym, ap}
 use borrow.Author.Needs.{needs}
+use Rattle.lists.specs.Told.{listingTold}
 use Rattle.component.specs.Stored.{stored}
 use Rattle.component.specs.Range.{cellInRange}
 use Rattle.ask.specs.Laws.Listings.{cube-refused, cube-answered}
@@ -56,7 +57,7 @@ returns-2 c =
     let a = n .before .before in
     let s = a .before .before .before .before in
     cube-answered (s .args .state .now) (s .args .cell) (s .args .answer .now) (a .before .cell-refused .result) (a .before .cell-refused .ensures) (s .args .radius) (a .if1 .left)
-    (n .count-at .result) (n .before .cell-words .result .now) (t .stored .result) (g .give-cube .result, g .give-cube .last .1 .1 .1 .1 .0) (n .count-at .ensures) (n .before .cell-words .ensures) (t .stored .ensures) (g .give-cube .ensures)
+    (n .count-at .result) (n .before .cell-words .result .now) (t .stored .result) (listingTold (g .give-cube .result), g .give-cube .last .1 .1 .1 .1 .0) (n .count-at .ensures) (n .before .cell-words .ensures) (t .stored .ensures) (g .give-cube .ensures)
 
 pub cube-spec : {M : Type 1} → statement M
 cube-spec =

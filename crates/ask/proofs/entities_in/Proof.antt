@@ -3,6 +3,7 @@ use native.Mathlib.Omega.{arith}
 use mathlib.Core.Path.{_∙_, sym, ap}
 use lib.ListN.{length}
 use borrow.Author.Needs.{needs}
+use Rattle.lists.specs.Told.{listingTold}
 use Rattle.ask.specs.Laws.Listings.{entities-refused, entities-answered}
 use Rattle.ask.specs.Laws.Words.{entities-few}
 use Rattle.ask.specs.Laws.Ways.{Sure, range-of}
@@ -49,7 +50,7 @@ returns-2 c =
     let a = n .before .before in
     let s = a .before .before .before .before in
     entities-answered (s .args .state .now) (s .args .cell) (s .args .answer .now) (a .before .cell-refused .result) (a .before .cell-refused .ensures) (a .if1 .left) (sure a)
-    (n .count-at .result) (n .before .entity-words .result .now) (t .stored .result) (g .give-entities .result, g .give-entities .last .1 .1 .1 .0) (n .count-at .ensures) (n .before .entity-words .ensures) (t .stored .ensures) (g .give-entities .ensures)
+    (n .count-at .result) (n .before .entity-words .result .now) (t .stored .result) (listingTold (g .give-entities .result), g .give-entities .last .1 .1 .1 .0) (n .count-at .ensures) (n .before .entity-words .ensures) (t .stored .ensures) (g .give-entities .ensures)
 
 pub entities-in-spec : {M : Type 1} → statement M
 entities-in-spec =

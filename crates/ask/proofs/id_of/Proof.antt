@@ -1,7 +1,9 @@
 -- The refusals in order, then the row of the cell.
 use mathlib.Core.Path.{_∙_, sym}
 use borrow.Author.Needs.{needs}
+use Rattle.layout.specs.Widths.{idWidth}
 use Rattle.table.specs.Rows.{isTable4}
+use Rattle.lookups.specs.Told.{idTold}
 use Rattle.ask.specs.Laws.Lookups.{id-refused, id-answered}
 use Rattle.ask.specs.Laws.Words.{ids-table}
 use Rattle.ask.specs.Laws.Ways.{Sure, range-of}
@@ -28,14 +30,14 @@ stored-requires : tie.Need-stored-requires
 stored-requires c κs = search needs
 
 find-id-requires : tie.Need-find-id-requires
-find-id-requires c κs = (λ i. isTable4 5 (c .before .count-at .ensures i) (c .before .before .id-words .ensures i)) ∙ ids-table _ (sure (c .before .before .before))
+find-id-requires c κs = (λ i. isTable4 idWidth (c .before .count-at .ensures i) (c .before .before .id-words .ensures i)) ∙ ids-table _ (sure (c .before .before .before))
 
 returns-2 : tie.Need-returns-2
 returns-2 c =
     let a = c .before .before .before .before in
     let s = a .before .before .before in
     id-answered (s .args .state .now) (s .args .cell) (a .before .cell-refused .result) (a .before .cell-refused .ensures) (a .if1 .left)
-    (c .before .before .count-at .result) (c .before .before .before .id-words .result .now) (c .before .stored .result) (c .find-id .result) (c .before .before .count-at .ensures) (c .before .before .before .id-words .ensures) (c .before .stored .ensures) (c .find-id .ensures)
+    (c .before .before .count-at .result) (c .before .before .before .id-words .result .now) (c .before .stored .result) (idTold (c .find-id .result)) (c .before .before .count-at .ensures) (c .before .before .before .id-words .ensures) (c .before .stored .ensures) (c .find-id .ensures)
 
 pub id-of-spec : {M : Type 1} → statement M
 id-of-spec =

@@ -3,6 +3,7 @@ use native.Mathlib.Omega.{arith}
 use mathlib.Core.Path.{ap}
 use lib.ListN.{length}
 use borrow.Author.Needs.{needs}
+use Rattle.lists.specs.Told.{listingTold}
 use Rattle.ask.specs.Laws.Listings.{ids-refused, ids-answered}
 use Rattle.ask.specs.Laws.Words.{groups-few}
 use Rattle.ask.specs.Laws.Ways.{Sure, sure-by}
@@ -43,7 +44,7 @@ returns-2 c =
     let a = n .before .before in
     let s = a .before .before .before .before in
     ids-answered (s .args .state .now) (s .args .answer .now) (a .before .refused .result) (a .before .refused .ensures) (a .if1 .left)
-    (n .count-at .result) (n .before .group-words .result .now) (g .give-ids .result, g .give-ids .last .1 .1 .0) (n .count-at .ensures) (n .before .group-words .ensures) (g .give-ids .ensures)
+    (n .count-at .result) (n .before .group-words .result .now) (listingTold (g .give-ids .result), g .give-ids .last .1 .1 .0) (n .count-at .ensures) (n .before .group-words .ensures) (g .give-ids .ensures)
 
 pub ids-spec : {M : Type 1} → statement M
 ids-spec =

@@ -1,7 +1,8 @@
 -- The refusals in order, then the row of the cell.
 use mathlib.Core.Path.{_∙_, sym}
 use borrow.Author.Needs.{needs}
-use Rattle.map.specs.Laws.Reads.{cells-table}
+use Rattle.neighbourhood.specs.Laws.Reads.{cells-table}
+use Rattle.lookups.specs.Told.{countTold}
 use Rattle.ask.specs.Laws.Lookups.{count-refused, count-answered}
 use Rattle.ask.specs.Laws.Words.{cells-here}
 use Rattle.ask.specs.Laws.Ways.{Sure, range-of}
@@ -38,7 +39,7 @@ returns-2 c =
     let a = c .before .before .before .before in
     let s = a .before .before .before in
     count-answered (s .args .state .now) (s .args .cell) (a .before .cell-refused .result) (a .before .cell-refused .ensures) (a .if1 .left)
-    (c .before .before .count-at .result) (c .before .before .before .cell-words .result .now) (c .before .stored .result) (c .find-count .result) (c .before .before .count-at .ensures) (c .before .before .before .cell-words .ensures) (c .before .stored .ensures) (c .find-count .ensures)
+    (c .before .before .count-at .result) (c .before .before .before .cell-words .result .now) (c .before .stored .result) (countTold (c .find-count .result)) (c .before .before .count-at .ensures) (c .before .before .before .cell-words .ensures) (c .before .stored .ensures) (c .find-count .ensures)
 
 pub neighbour-count-spec : {M : Type 1} → statement M
 neighbour-count-spec =

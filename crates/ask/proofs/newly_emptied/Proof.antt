@@ -3,6 +3,7 @@ use native.Mathlib.Omega.{arith}
 use mathlib.Core.Path.{ap}
 use lib.ListN.{length}
 use borrow.Author.Needs.{needs}
+use Rattle.lists.specs.Told.{listingTold}
 use Rattle.ask.specs.Laws.Listings.{emptied-refused, emptied-answered}
 use Rattle.ask.specs.Laws.Words.{emptied-few}
 use Rattle.ask.specs.Laws.Ways.{Sure, sure-by}
@@ -43,7 +44,7 @@ returns-2 c =
     let a = n .before .before in
     let s = a .before .before .before .before in
     emptied-answered (s .args .state .now) (s .args .answer .now) (a .before .refused .result) (a .before .refused .ensures) (a .if1 .left)
-    (n .count-at .result) (n .before .emptied-words .result .now) (g .give-net .result, g .give-net .last .1 .1 .0) (n .count-at .ensures) (n .before .emptied-words .ensures) (g .give-net .ensures)
+    (n .count-at .result) (n .before .emptied-words .result .now) (listingTold (g .give-net .result), g .give-net .last .1 .1 .0) (n .count-at .ensures) (n .before .emptied-words .ensures) (g .give-net .ensures)
 
 pub newly-emptied-spec : {M : Type 1} → statement M
 newly-emptied-spec =

@@ -2,9 +2,10 @@
 use native.Mathlib.Omega.{arith}
 use mathlib.Core.Path.{_∙_, sym}
 use borrow.Author.Needs.{needs}
-use Rattle.ask.specs.Laws.Paths.{both-sure, path-refused, path-answered}
+use Rattle.lists.specs.Told.{listingTold}
+use Rattle.ask.specs.Laws.Listings.{path-refused, path-answered}
 use Rattle.ask.specs.Laws.Words.{cells-here, cells-few}
-use Rattle.ask.specs.Laws.Ways.{Sure}
+use Rattle.ask.specs.Laws.Ways.{Sure, both-sure}
 use Rattle.ask.proofs.path.Statement.{statement}
 use Rattle.ask.proofs.path.Tie as tie
 
@@ -52,7 +53,7 @@ returns-2 c =
     let a = n .before .before in
     let s = a .before .before .before .before in
     path-answered (s .args .state .now) (s .args .from) (s .args .to) (s .args .answer .now) (a .before .cells-refused .result) (a .before .cells-refused .ensures) (a .if1 .left)
-    (n .count-at .result) (n .before .cell-words .result .now) (t .before .stored .result) (t .stored2 .result) (g .give-path .result, g .give-path .last .1 .1 .1 .1 .0) (n .count-at .ensures) (n .before .cell-words .ensures) (t .before .stored .ensures) (t .stored2 .ensures) (g .give-path .ensures)
+    (n .count-at .result) (n .before .cell-words .result .now) (t .before .stored .result) (t .stored2 .result) (listingTold (g .give-path .result), g .give-path .last .1 .1 .1 .1 .0) (n .count-at .ensures) (n .before .cell-words .ensures) (t .before .stored .ensures) (t .stored2 .ensures) (g .give-path .ensures)
 
 pub path-spec : {M : Type 1} → statement M
 path-spec =

@@ -1,10 +1,10 @@
--- The refusals, and the ways to an answer.
+-- The refusals, one after the other.
 use Prim.Native.Nat.{ℕ, _≤_, _<_}
 use native.Mathlib.Omega.{arith}
 use mathlib.Core.Path.{_≡_, refl, sym, ap, _∙_}
 use mathlib.Core.Bool.{Bool, true, false, cond, not, _&&_}
 use mathlib.Core.List.{List}
-use lib.Dec.{eqb}
+use lib.Dec.{eqb, eqb→eq}
 use lib.ListN.{length}
 use borrow.Author.Tests.{le-leb, lt-leb}
 use Rattle.component.specs.declared.CellId.{CellId}
@@ -12,24 +12,15 @@ use Rattle.component.specs.Coord.{coordInRange}
 use Rattle.component.specs.Stored.{stored}
 use Rattle.component.specs.Range.{cellInRange}
 use Rattle.component.specs.Laws.Range.{range-of-stored}
-use Rattle.model.specs.Laws.Tests.{cond-yes, cond-no, eqb-of, neqb-of, T-true, T-false}
+use Rattle.model.specs.Laws.Tests.{cond-yes, cond-no, eqb-of, neqb-of, neqb→ne, T-true, T-false}
 use Rattle.layout.specs.State.{stateLen}
 use Rattle.layout.specs.Points.{longEnough, consistentWords}
-use Rattle.ask.specs.Answers.{refusal, cellRefusal, unless}
+use Rattle.ask.specs.Answers.{refusal, cellRefusal, cellsRefusal}
 
 -- What is known of words that no number refuses.
 pub record Sure (w : List ℕ) : Type 0 where
   pub long : longEnough w ≡ true
   pub good : consistentWords w ≡ true
-
-module _ {A : Type 0} (no n : ℕ) (refuse : ℕ → A) (answer : A) (e : no ≡ n) where
-  -- A number refuses.
-  pub refused-way : (no ≡ 0 → ⊥) → refuse no ≡ unless n refuse answer
-  refused-way h = ap refuse e ∙ sym (cond-no (eqb n 0) answer (refuse n) (neqb-of n 0 (λ z. h (e ∙ z))))
-
-  -- None does.
-  pub answered-way : no ≡ 0 → (a : A) → a ≡ answer → a ≡ unless n refuse answer
-  answered-way h a k = k ∙ sym (cond-yes (eqb n 0) answer (refuse n) (eqb-of n 0 (sym e ∙ h)))
 
 module _ (w : List ℕ) where
   -- The refusal by both tests.
@@ -81,6 +72,28 @@ unfolding cellRefusal
 range-of w c e = go (eqb (refusal w) 0) (coordInRange (c .coord)) refl refl e
   where
     go : (a b : Bool) → eqb (refusal w) 0 ≡ a → coordInRange (c .coord) ≡ b → cond a (cond b 0 4) (refusal w) ≡ 0 → Sure w × (cellInRange (stored c) ≡ true)
-    go true true p q k = (sure-of w (lib.Dec.eqb→eq (refusal w) 0 (T-true p)), sym (range-of-stored c) ∙ q)
+    go true true p q k = (sure-of w (eqb→eq (refusal w) 0 (T-true p)), sym (range-of-stored c) ∙ q)
     go true false p q k = absurd (omega arith)
-    go false b p q k = absurd (Rattle.model.specs.Laws.Tests.neqb→ne (refusal w) 0 (T-false p) k)
+    go false b p q k = absurd (neqb→ne (refusal w) 0 (T-false p) k)
+
+module _ (w : List ℕ) (a b : CellId) (no : ℕ) (e : no ≡ cellRefusal w a) where
+  -- The state or the first cell is refused.
+  pub first-way : (no ≡ 0 → ⊥) → no ≡ cellsRefusal w a b
+  unfolding cellsRefusal
+  first-way h = e ∙ sym (cond-no (eqb (cellRefusal w a) 0) (cond (coordInRange (b .coord)) 0 4) (cellRefusal w a) (neqb-of (cellRefusal w a) 0 (λ z. h (e ∙ z))))
+
+  -- They are not, and what the test of the second cell's range answers.
+  pub second-way : no ≡ 0 → (t : Bool) → t ≡ coordInRange (b .coord) → cond t 0 4 ≡ cellsRefusal w a b
+  unfolding cellsRefusal
+  second-way h t f =
+      ap (λ x. cond x 0 4) f
+      ∙ sym (cond-yes (eqb (cellRefusal w a) 0) (cond (coordInRange (b .coord)) 0 4) (cellRefusal w a) (eqb-of (cellRefusal w a) 0 (sym e ∙ h)))
+
+-- Words of which no number refuses two cells are those of a consistent state.
+pub both-sure : (w : List ℕ) (a b : CellId) → cellsRefusal w a b ≡ 0 → Sure w
+unfolding cellsRefusal
+both-sure w a b e = go (eqb (cellRefusal w a) 0) refl e
+  where
+    go : (t : Bool) → eqb (cellRefusal w a) 0 ≡ t → cond t (cond (coordInRange (b .coord)) 0 4) (cellRefusal w a) ≡ 0 → Sure w
+    go true p k = range-of w a (eqb→eq (cellRefusal w a) 0 (T-true p)) .0
+    go false p k = absurd (neqb→ne (cellRefusal w a) 0 (T-false p) k)

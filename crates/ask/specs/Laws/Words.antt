@@ -1,12 +1,11 @@
 -- What consistent words hold: their tables, as the functions that read them ask.
-use Prim.Native.Nat.{ℕ, _+_, _*_, _≤_}
+use Prim.Native.Nat.{ℕ, _*_, _≤_}
 use native.Mathlib.Omega.{arith}
 use mathlib.Core.Path.{_≡_, refl, sym, ap, _∙_, subst, subst₂}
 use mathlib.Core.Bool.{true, _&&_}
 use mathlib.Core.List.{List, _++_}
 use lib.Dec.{leb, ltb}
-use lib.ListN.{length, take, drop, take-append-drop}
-use lib.Seq.{slice, length-slice, length-take-le, take-add, drop-at}
+use lib.ListN.{length, drop, take-append-drop}
 use borrow.Author.Tests.{leb-true, le-leb}
 use Rattle.component.specs.Laws.Tests.{both}
 use Rattle.model.specs.Lists.{keys, values, isAscending}
@@ -22,24 +21,19 @@ use Rattle.model.specs.Laws.Occupied.{occupied-asc}
 use Rattle.model.specs.Laws.Touching.{touching-26}
 use Rattle.model.specs.Laws.Consistency.{Ok, ok-out, ids-asc}
 use Rattle.table.specs.Rows.{Kind, number, cell, tableOf, isTableOf, isTable1, isTable4, table1, table4, areZero}
+use Rattle.layout.specs.Widths.{entityWidth, cellWidth, netWidth, idWidth, groupWidth}
 use Rattle.layout.specs.Rows.{entityOf, idOf, groupOf, cellsImage, entitiesIn, cellsIn, idsIn, groupsIn}
-use Rattle.layout.specs.State.{entitiesLen, cellsLen, netLen, idsLen, groupsLen, entitiesFrom, cellsFrom, occupiedFrom, emptiedFrom, idsFrom, groupsFrom, stateLen, decode, entityWords, cellWords, occupiedWords, emptiedWords, idWords, groupWords, entityCount, cellCount, occupiedCount, emptiedCount, idCount, groupCount}
-use Rattle.layout.specs.Points.{tidy, longEnough}
-use Rattle.layout.specs.Facts.{Orderly, Stands}
-use Rattle.layout.specs.Laws.Lengths.{header-end, entities-end, cells-end, occupied-end, emptied-end, ids-end, groups-end, entities-room, cells-room, net-room, ids-room, groups-room}
+use Rattle.layout.specs.State.{stateLen, decode, entityWords, cellWords, occupiedWords, emptiedWords, idWords, groupWords, entityCount, cellCount, occupiedCount, emptiedCount, idCount, groupCount}
+use Rattle.layout.specs.Points.{tidy}
+use Rattle.layout.specs.Facts.{Orderly, BeginsWith}
+use Rattle.layout.specs.Laws.Cut.{entities-long, cells-long, occupied-long, emptied-long, ids-long, groups-long}
+use Rattle.layout.specs.Laws.Lengths.{entities-room, cells-room, net-room, ids-room, groups-room}
 use Rattle.layout.specs.Laws.Fitting.{consistent-fits}
 use Rattle.layout.specs.Laws.Standing.{image-stands}
 use Rattle.layout.specs.Laws.Orderly.{orderly-out}
 use Rattle.layout.specs.Theorems.Canonical.{consistent-image}
-use Rattle.map.specs.Standing.{Cells}
+use Rattle.neighbourhood.specs.Standing.{Cells}
 use Rattle.ask.specs.Laws.Ways.{Sure}
-
--- A part by its length is the part by its end.
-pub part-of : (w : List ℕ) (f n t : ℕ) → f + n ≡ t → f ≤ length w → take n (drop f w) ≡ slice f t w
-part-of w f n t e h =
-    sym (drop-at (take f w) (take n (drop f w)) f (length-take-le f w h))
-    ∙ ap (drop f) (sym (take-add f n w))
-    ∙ ap (λ (m : ℕ). slice f m w) e
 
 -- Tidy rows whose keys ascend are a table.
 table-by : {K : Type 0} (kind : Kind K) (wide most n : ℕ) (s : List ℕ) → kind .size ≤ wide → tidy wide most n s ≡ true → (n ≤ most → wide * n ≤ length s)
@@ -55,45 +49,6 @@ table-by kind wide most n s a t room asc =
 tidy-few : (wide most n : ℕ) (s : List ℕ) → tidy wide most n s ≡ true → n ≤ most
 tidy-few wide most n s t = leb-true n most (both (leb n most) (areZero (drop (wide * n) s)) t .0)
 
-module _ (w : List ℕ) (long : longEnough w ≡ true) where
-  -- Words that are long enough hold a whole state.
-  pub whole : stateLen ≤ length w
-  whole = leb-true stateLen (length w) long
-
-  -- The header is within them.
-  pub header-fits : 8 ≤ length w
-  header-fits = omega (arith, whole, header-end, entities-end, cells-end, occupied-end, emptied-end, ids-end, groups-end)
-
-  pub entities-long : length (entityWords w) ≡ entitiesLen
-  entities-long =
-      let e = length-slice entitiesFrom cellsFrom w (omega (arith, whole, cells-end, occupied-end, emptied-end, ids-end, groups-end)) in
-      e ∙ omega (arith, entities-end)
-
-  pub cells-long : length (cellWords w) ≡ cellsLen
-  cells-long =
-      let e = length-slice cellsFrom occupiedFrom w (omega (arith, whole, occupied-end, emptied-end, ids-end, groups-end)) in
-      e ∙ omega (arith, cells-end)
-
-  pub occupied-long : length (occupiedWords w) ≡ netLen
-  occupied-long =
-      let e = length-slice occupiedFrom emptiedFrom w (omega (arith, whole, emptied-end, ids-end, groups-end)) in
-      e ∙ omega (arith, occupied-end)
-
-  pub emptied-long : length (emptiedWords w) ≡ netLen
-  emptied-long =
-      let e = length-slice emptiedFrom idsFrom w (omega (arith, whole, ids-end, groups-end)) in
-      e ∙ omega (arith, emptied-end)
-
-  pub ids-long : length (idWords w) ≡ idsLen
-  ids-long =
-      let e = length-slice idsFrom groupsFrom w (omega (arith, whole, groups-end)) in
-      e ∙ omega (arith, ids-end)
-
-  pub groups-long : length (groupWords w) ≡ groupsLen
-  groups-long =
-      let e = length-slice groupsFrom stateLen w whole in
-      e ∙ omega (arith, groups-end)
-
 module _ (w : List ℕ) (sure : Sure w) where
   orderly : Orderly w
   orderly = orderly-out w (sure .good)
@@ -103,63 +58,63 @@ module _ (w : List ℕ) (sure : Sure w) where
   ok = ok-out touch26 (touching-26 .flip) (decode w) (T-true (orderly .yard))
 
   -- They begin with its image.
-  stands : Stands (decode w) w
+  stands : BeginsWith (decode w) w
   stands =
       let r = consistent-image w (sure .good) (sure .long) in
-      subst (Stands (decode w)) (ap (λ (l : List ℕ). l ++ drop stateLen w) (sym (r .1)) ∙ take-append-drop stateLen w)
+      subst (BeginsWith (decode w)) (ap (λ (l : List ℕ). l ++ drop stateLen w) (sym (r .1)) ∙ take-append-drop stateLen w)
       (image-stands (decode w) (consistent-fits (decode w) (r .0)) (drop stateLen w))
 
   -- The entities are a table.
-  pub entities-table : isTable1 5 (entityCount w) (entityWords w) ≡ true
+  pub entities-table : isTable1 entityWidth (entityCount w) (entityWords w) ≡ true
   unfolding decode entitiesIn
   entities-table =
-      table-by number 5 mostEntities (entityCount w) (entityWords w) (omega arith) (orderly .entity-rows)
+      table-by number entityWidth mostEntities (entityCount w) (entityWords w) (omega arith) (orderly .entity-rows)
       (λ h. omega (arith, entities-room (entityCount w) h, entities-long w (sure .long)))
-      (subst (Asc ltb) (each-each (λ (p : ℕ × Cell). p .0) entityOf (table1 5 (entityCount w) (entityWords w))) (ok .sound .asc))
+      (subst (Asc ltb) (each-each (λ (p : ℕ × Cell). p .0) entityOf (table1 entityWidth (entityCount w) (entityWords w))) (ok .sound .asc))
 
   -- The cells with an id are a table.
-  pub ids-table : isTable4 5 (idCount w) (idWords w) ≡ true
+  pub ids-table : isTable4 idWidth (idCount w) (idWords w) ≡ true
   unfolding decode idsIn
   ids-table =
-      table-by cell 5 mostCells (idCount w) (idWords w) (omega arith) (orderly .id-rows)
+      table-by cell idWidth mostCells (idCount w) (idWords w) (omega arith) (orderly .id-rows)
       (λ h. omega (arith, ids-room (idCount w) h, ids-long w (sure .long)))
-      (subst (Asc below) (each-each (λ (p : Cell × ℕ). p .0) idOf (table4 5 (idCount w) (idWords w))) (ids-asc touch26 (decode w) ok))
+      (subst (Asc below) (each-each (λ (p : Cell × ℕ). p .0) idOf (table4 idWidth (idCount w) (idWords w))) (ids-asc touch26 (decode w) ok))
 
   records-asc : Asc ltb (keys (decode w .records))
   records-asc =
       subst (Asc ltb) (sym (ap keys (ok .records-are) ∙ records-keys (decode w .groups .ids))) (ascending-asc numbers (values (decode w .groups .ids)))
 
   -- The groups are a table.
-  pub groups-table : isTable1 9 (groupCount w) (groupWords w) ≡ true
+  pub groups-table : isTable1 groupWidth (groupCount w) (groupWords w) ≡ true
   unfolding decode groupsIn
   groups-table =
-      table-by number 9 mostCells (groupCount w) (groupWords w) (omega arith) (orderly .group-rows)
+      table-by number groupWidth mostCells (groupCount w) (groupWords w) (omega arith) (orderly .group-rows)
       (λ h. omega (arith, groups-room (groupCount w) h, groups-long w (sure .long)))
-      (subst (Asc ltb) (each-each (λ (p : ℕ × Group). p .0) groupOf (table1 9 (groupCount w) (groupWords w))) records-asc)
+      (subst (Asc ltb) (each-each (λ (p : ℕ × Group). p .0) groupOf (table1 groupWidth (groupCount w) (groupWords w))) records-asc)
 
   -- How many rows each table has at most, and that they fit.
-  pub entities-few : (5 * entityCount w ≤ length (entityWords w)) × (entityCount w ≤ mostEntities)
+  pub entities-few : (entityWidth * entityCount w ≤ length (entityWords w)) × (entityCount w ≤ mostEntities)
   entities-few =
-      let h = tidy-few 5 mostEntities (entityCount w) (entityWords w) (orderly .entity-rows) in
+      let h = tidy-few entityWidth mostEntities (entityCount w) (entityWords w) (orderly .entity-rows) in
       (omega (arith, entities-room (entityCount w) h, entities-long w (sure .long)), h)
 
-  pub groups-few : (9 * groupCount w ≤ length (groupWords w)) × (groupCount w ≤ mostCells)
+  pub groups-few : (groupWidth * groupCount w ≤ length (groupWords w)) × (groupCount w ≤ mostCells)
   groups-few =
-      let h = tidy-few 9 mostCells (groupCount w) (groupWords w) (orderly .group-rows) in
+      let h = tidy-few groupWidth mostCells (groupCount w) (groupWords w) (orderly .group-rows) in
       (omega (arith, groups-room (groupCount w) h, groups-long w (sure .long)), h)
 
-  pub occupied-few : (4 * occupiedCount w ≤ length (occupiedWords w)) × (occupiedCount w ≤ mostCells)
+  pub occupied-few : (netWidth * occupiedCount w ≤ length (occupiedWords w)) × (occupiedCount w ≤ mostCells)
   occupied-few =
-      let h = tidy-few 4 mostCells (occupiedCount w) (occupiedWords w) (orderly .occupied-rows) in
+      let h = tidy-few netWidth mostCells (occupiedCount w) (occupiedWords w) (orderly .occupied-rows) in
       (omega (arith, net-room (occupiedCount w) h, occupied-long w (sure .long)), h)
 
-  pub emptied-few : (4 * emptiedCount w ≤ length (emptiedWords w)) × (emptiedCount w ≤ mostCells)
+  pub emptied-few : (netWidth * emptiedCount w ≤ length (emptiedWords w)) × (emptiedCount w ≤ mostCells)
   emptied-few =
-      let h = tidy-few 4 mostCells (emptiedCount w) (emptiedWords w) (orderly .emptied-rows) in
+      let h = tidy-few netWidth mostCells (emptiedCount w) (emptiedWords w) (orderly .emptied-rows) in
       (omega (arith, net-room (emptiedCount w) h, emptied-long w (sure .long)), h)
 
   pub cells-few : cellCount w ≤ mostCells
-  cells-few = tidy-few 5 mostCells (cellCount w) (cellWords w) (orderly .cell-rows)
+  cells-few = tidy-few cellWidth mostCells (cellCount w) (cellWords w) (orderly .cell-rows)
 
   masks-are : decode w .occupancy .masks ≡ cellsIn (cellCount w) (cellWords w)
   unfolding decode

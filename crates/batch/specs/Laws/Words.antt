@@ -8,25 +8,27 @@ use lib.Dec.{ltb}
 use lib.ListN.{length, take, drop, getD, length-append}
 use lib.Seq.{getD-take, getD-drop, drop-drop, length-take-le}
 use borrow.Author.Tests.{lt-ltb, le-ltb}
+use Rattle.component.specs.Stored.{storedWord}
 use Rattle.component.specs.Laws.Tests.{ltb-same}
 use Rattle.model.specs.Lists.{all, each}
 use Rattle.model.specs.Cells.{Cell, cellInRange}
 use Rattle.model.specs.Occupancy.{remove, moveTo, events}
 use Rattle.model.specs.Update.{mostEvents, lastNext, tooManyEvents, outOfRange, fewIds}
 use Rattle.model.specs.Laws.Members.{each-length}
-use Rattle.batch.specs.Words.{storedWord, moveAt, movesIn, batchOf, early}
+use Rattle.layout.specs.Widths.{moveWidth}
+use Rattle.batch.specs.Words.{moveAt, movesIn, batchOf, early}
 
 -- The move of words that agree on five places.
-same-move : (s t : List ℕ) (a b : ℕ) → ((j : ℕ) → j < 5 → getD s (a + j) 0 ≡ getD t (b + j) 0) → getD s a 0 ≡ getD t b 0 → moveAt s a ≡ moveAt t b
+same-move : (s t : List ℕ) (a b : ℕ) → ((j : ℕ) → j < moveWidth → getD s (a + j) 0 ≡ getD t (b + j) 0) → getD s a 0 ≡ getD t b 0 → moveAt s a ≡ moveAt t b
 same-move s t a b h e =
     λ i. (e i, record { grid = h 1 (omega arith) i; z = storedWord (h 4 (omega arith) i); y = storedWord (h 3 (omega arith) i); x = storedWord (h 2 (omega arith) i) })
 
 -- The first of some moves, and the others.
-pub moves-more : (n : ℕ) (s : List ℕ) → movesIn (suc n) s ≡ moveAt s 0 ∷ movesIn n (drop 5 s)
+pub moves-more : (n : ℕ) (s : List ℕ) → movesIn (suc n) s ≡ moveAt s 0 ∷ movesIn n (drop moveWidth s)
 unfolding movesIn
 moves-more n s =
-    ap (λ (m : ℕ × Cell). m ∷ movesIn n (drop 5 s))
-    (same-move (take 5 s) s 0 0 (λ j h. getD-take 5 s (0 + j) 0 (omega arith)) (getD-take 5 s 0 0 (omega arith)))
+    ap (λ (m : ℕ × Cell). m ∷ movesIn n (drop moveWidth s))
+    (same-move (take moveWidth s) s 0 0 (λ j h. getD-take moveWidth s (0 + j) 0 (omega arith)) (getD-take moveWidth s 0 0 (omega arith)))
 
 -- The move at a place, from that place on.
 pub move-from : (s : List ℕ) (at : ℕ) → moveAt (drop at s) 0 ≡ moveAt s at
@@ -38,29 +40,29 @@ move-from s at =
 -- The moves from the i-th on.
 module _ (b : List ℕ) (from moves : ℕ) where
   abbrev pub movesLeft : ℕ → List (ℕ × Cell)
-  movesLeft i = movesIn (moves - i) (drop (from + 5 * i) b)
+  movesLeft i = movesIn (moves - i) (drop (from + moveWidth * i) b)
 
   -- From the first on they are all.
   pub moves-start : movesIn moves (drop from b) ≡ movesLeft 0
   moves-start =
       let e : moves ≡ moves - 0 = omega arith in
-      let f : from ≡ from + 5 * 0 = omega arith in
+      let f : from ≡ from + moveWidth * 0 = omega arith in
       λ i. movesIn (e i) (drop (f i) b)
 
   -- The i-th, and those behind it.
-  pub moves-step : (i : ℕ) → i < moves → movesLeft i ≡ moveAt b (from + 5 * i) ∷ movesLeft (i + 1)
+  pub moves-step : (i : ℕ) → i < moves → movesLeft i ≡ moveAt b (from + moveWidth * i) ∷ movesLeft (i + 1)
   moves-step i h =
       let e : moves - i ≡ suc (moves - (i + 1)) = omega arith in
-      let f : from + 5 * i + 5 ≡ from + 5 * (i + 1) = omega arith in
-      ap (λ (n : ℕ). movesIn n (drop (from + 5 * i) b)) e
-      ∙ moves-more (moves - (i + 1)) (drop (from + 5 * i) b)
-      ∙ (λ j. move-from b (from + 5 * i) j ∷ movesIn (moves - (i + 1)) (drop-drop 5 (from + 5 * i) b j))
-      ∙ ap (λ (n : ℕ). moveAt b (from + 5 * i) ∷ movesIn (moves - (i + 1)) (drop n b)) f
+      let f : from + moveWidth * i + moveWidth ≡ from + moveWidth * (i + 1) = omega arith in
+      ap (λ (n : ℕ). movesIn n (drop (from + moveWidth * i) b)) e
+      ∙ moves-more (moves - (i + 1)) (drop (from + moveWidth * i) b)
+      ∙ (λ j. move-from b (from + moveWidth * i) j ∷ movesIn (moves - (i + 1)) (drop-drop moveWidth (from + moveWidth * i) b j))
+      ∙ ap (λ (n : ℕ). moveAt b (from + moveWidth * i) ∷ movesIn (moves - (i + 1)) (drop n b)) f
 
   -- Behind the last there is none.
   pub moves-end : (i : ℕ) → moves ≤ i → movesLeft i ≡ []
   unfolding movesIn
-  moves-end i h = ap (λ (n : ℕ). movesIn n (drop (from + 5 * i) b)) (let e : moves - i ≡ 0 = omega arith in e)
+  moves-end i h = ap (λ (n : ℕ). movesIn n (drop (from + moveWidth * i) b)) (let e : moves - i ≡ 0 = omega arith in e)
 
 -- A test of all moves, from the i-th on.
 module _ (P : ℕ × Cell → Bool) (b : List ℕ) (from moves : ℕ) where
@@ -70,33 +72,33 @@ module _ (P : ℕ × Cell → Bool) (b : List ℕ) (from moves : ℕ) where
   pub left-start : all P (movesIn moves (drop from b)) ≡ left 0
   left-start = ap (all P) (moves-start b from moves)
 
-  left-step : (i : ℕ) → i < moves → left i ≡ (P (moveAt b (from + 5 * i)) && left (i + 1))
+  left-step : (i : ℕ) → i < moves → left i ≡ (P (moveAt b (from + moveWidth * i)) && left (i + 1))
   left-step i h = ap (all P) (moves-step b from moves i h)
 
   -- A move that fails ends the test.
-  pub left-fails : (i : ℕ) → i < moves → P (moveAt b (from + 5 * i)) ≡ false → left i ≡ false
+  pub left-fails : (i : ℕ) → i < moves → P (moveAt b (from + moveWidth * i)) ≡ false → left i ≡ false
   left-fails i h e = left-step i h ∙ ap (λ (t : Bool). t && left (i + 1)) e
 
   -- A move that passes leaves the test to the others.
-  pub left-passes : (i : ℕ) → i < moves → P (moveAt b (from + 5 * i)) ≡ true → left i ≡ left (i + 1)
+  pub left-passes : (i : ℕ) → i < moves → P (moveAt b (from + moveWidth * i)) ≡ true → left i ≡ left (i + 1)
   left-passes i h e = left-step i h ∙ ap (λ (t : Bool). t && left (i + 1)) e
 
   pub left-end : (i : ℕ) → moves ≤ i → left i ≡ true
   left-end i h = ap (all P) (moves-end b from moves i h)
 
 -- Words are too few where the removals alone need more.
-pub lacks-some : (n r m : ℕ) → n < r → true ≡ ltb n (r + 5 * m)
-lacks-some n r m h = sym (lt-ltb n (r + 5 * m) (omega arith))
+pub lacks-some : (n r m : ℕ) → n < r → true ≡ ltb n (r + moveWidth * m)
+lacks-some n r m h = sym (lt-ltb n (r + moveWidth * m) (omega arith))
 
 -- Behind the removals there is space for a fifth as many moves.
-pub lacks-moves : (n r m : ℕ) → r ≤ n → ltb ((n - r) / 5) m ≡ ltb n (r + 5 * m)
-lacks-moves n r m h = ltb-same ((n - r) / 5) m n (r + 5 * m) (λ p. omega arith) (λ p. omega arith)
+pub lacks-moves : (n r m : ℕ) → r ≤ n → ltb ((n - r) / moveWidth) m ≡ ltb n (r + moveWidth * m)
+lacks-moves n r m h = ltb-same ((n - r) / moveWidth) m n (r + moveWidth * m) (λ p. omega arith) (λ p. omega arith)
 
 -- As many moves are read as asked for.
 pub moves-length : (n : ℕ) (s : List ℕ) → length (movesIn n s) ≡ n
 unfolding movesIn
 moves-length zero s = refl
-moves-length (suc n) s = ap suc (moves-length n (drop 5 s))
+moves-length (suc n) s = ap suc (moves-length n (drop moveWidth s))
 
 -- A batch has as many events as stated.
 pub events-length : (s : List ℕ) (r m : ℕ) → r ≤ length s → length (events (batchOf s r m)) ≡ r + m

@@ -1,51 +1,56 @@
-use Rattle.consistent.specs.Laws.Masks.{asks-parts, point4-is}
-use Rattle.consistent.specs.Laws.Wholes.{long-words}
-use Prim.Native.Nat.{_-_}
+-- Point 4, over the words of the occupied cells and of the cells with an id.
 use native.Mathlib.Omega.{arith}
+use mathlib.Core.Path.{sym, ap, _∙_, subst₂}
+use mathlib.Core.List.{List}
+use Prim.Native.Nat.{ℕ}
+use lib.ListN.{length}
+use Rattle.model.specs.Lists.{keys}
+use Rattle.model.specs.Cells.{touch26}
+use Rattle.model.specs.Laws.Shared.{sharedIn}
+use Rattle.table.specs.Rows.{table4}
+use Rattle.layout.specs.Widths.{cellWidth, idWidth}
+use Rattle.layout.specs.Rows.{idsIn}
+use Rattle.neighbourhood.specs.Standing.{HasTable}
+use Rattle.consistent.specs.Laws.Points.{asks-parts, point4-is}
 use borrow.Author.Needs.{needs}
 use Rattle.consistent.proofs.ids_shared.Statement.{statement}
 use Rattle.consistent.proofs.ids_shared.Tie as tie
-use Rattle.consistent.proofs.ids_shared.Reads as reads
-use Rattle.consistent.proofs.ids_shared.Lts as lts
-use Rattle.parts_check.proofs.parts_right.Reads as parts-right-reads
 
-sub-cells : tie.Need-sub-cells
-sub-cells c = search needs
+cell-words-requires : tie.Need-cell-words-requires
+cell-words-requires c κs = search needs
 
-part-cells-start : tie.Need-part-cells-start
-part-cells-start c = search needs
+count-at-requires : tie.Need-count-at-requires
+count-at-requires c κs = search needs
 
-part-cells-end : tie.Need-part-cells-end
-part-cells-end c = let h = long-words (c .before .args .state .now) (c .before .pre .0) in omega arith
-
-sub-ids : tie.Need-sub-ids
-sub-ids c = search needs
-
-part-ids-start : tie.Need-part-ids-start
-part-ids-start c = search needs
-
-part-ids-end : tie.Need-part-ids-end
-part-ids-end c = let h = long-words (c .before .before .args .state .now) (c .before .before .pre .0) in omega arith
-
-shared-slice-read-parts-right : tie.Need-shared-slice-read-parts-right
-shared-slice-read-parts-right c = let h = long-words (c .before .before .before .before .args .state .now) (c .before .before .before .before .pre .0) in omega arith
+id-words-requires : tie.Need-id-words-requires
+id-words-requires c κs = search needs
 
 parts-right-requires : tie.Need-parts-right-requires
-parts-right-requires c κs = let s = c .before .before .before .before in asks-parts (s .args .state .now) (s .pre .0) (s .pre .1) (s .pre .2)
+parts-right-requires c κs =
+    let s = c .before .before .before .before in
+    let a = asks-parts (s .args .state .now) (s .pre .0) (s .pre .1) (s .pre .2) in
+    let f = c .before .before .cell-words .ensures in
+    let m = c .before .count-at .ensures in
+    let g = c .id-words .ensures in (
+      subst₂ (λ (n : ℕ) (l : List ℕ). HasTable l n) (sym m) (sym f) (a .0),
+      (λ i. keys (table4 idWidth (m i) (g i))) ∙ a .1 ∙ (λ i. keys (table4 cellWidth (sym m i) (sym f i))),
+      omega (arith, a .2, m, ap length g),
+      omega (arith, a .3, m),
+    )
 
 returns : tie.Need-returns
-returns c = let s = c .before .before .before .before .before in point4-is (s .args .state .now) (s .pre .0) (s .pre .1) (s .pre .2) (c .parts-right .result) (c .parts-right .ensures)
+returns c =
+    let s = c .before .before .before .before .before in
+    c .parts-right .ensures
+    ∙ (λ i. sharedIn touch26 (idsIn (c .before .before .count-at .ensures i) (c .before .id-words .ensures i)))
+    ∙ point4-is (s .args .state .now) (s .pre .0) (s .pre .1)
 
 pub ids-shared-spec : {M : Type 1} → statement M
 ids-shared-spec =
     tie.close
     (tie.spec
-    sub-cells
-    part-cells-start
-    part-cells-end
-    sub-ids
-    part-ids-start
-    part-ids-end
-    shared-slice-read-parts-right
+    cell-words-requires
+    count-at-requires
+    id-words-requires
     parts-right-requires
     returns)

@@ -41,10 +41,6 @@ minus-zero-eq e =
     let b : 0 * down e ≡ 0 = zero-mul (down e) in
     λ i. eqb-true (zero * up e * 1) (0 * down e) (a ∙ sym b) i && eqb-true (zero * up e * 1) 0 a i
 
-zero-eq : (e : ℤ) → eq (fin false zero e) zeroF ≡ true
-unfolding eq
-zero-eq e = ap (λ (b : Bool). b && true) (eqb-true (zero * up e * 1) (0 * down e) (ap (λ (x : ℕ). x * 1) (zero-mul (up e)) ∙ sym (zero-mul (down e))))
-
 -- ---- finite
 eq-plus : (v : Float) → plus v ≡ zeroF → eq v zeroF ≡ true
 unfolding eq

@@ -30,19 +30,10 @@ minus nan = false
 minus (inf s) = false
 minus (fin s m e) = s
 
-pub exact-is : (x : Float) → exact x ≡ signed (minus x) (units x)
-unfolding exact
-exact-is nan = refl
-exact-is (inf s) = refl
-exact-is (fin s m e) = refl
-
 pub natAbs-signed : (s : Bool) (n : ℕ) → natAbs (signed s n) ≡ n
 natAbs-signed false n = refl
 natAbs-signed true zero = refl
 natAbs-signed true (suc n) = refl
-
-pub natAbs-exact : (x : Float) → natAbs (exact x) ≡ units x
-natAbs-exact x = ap natAbs (exact-is x) ∙ natAbs-signed (minus x) (units x)
 
 -- ---- 2 ^ e m is a whole number of units
 pow-le-back : (a l : ℕ) → 2 ^ a ≤ 2 ^ l → a ≤ l

@@ -4,10 +4,6 @@ use borrow.Author.Needs.{needs}
 use Rattle.fresh.specs.Laws.Image.{header-within, fresh-short, fresh-late, fresh-done}
 use Rattle.fresh.proofs.fresh.Statement.{statement}
 use Rattle.fresh.proofs.fresh.Tie as tie
-use Rattle.fresh.proofs.fresh.Reads as reads
-use Rattle.fresh.proofs.fresh.Lts as lts
-use Rattle.layout.proofs.state_len.Reads as state-len-reads
-use Rattle.table.proofs.write_zeros.Reads as write-zeros-reads
 
 state-len-requires : tie.Need-state-len-requires
 state-len-requires c κs = search needs

@@ -16,6 +16,7 @@ use Rattle.table.specs.Rows.{Kind, number, cell, areZero, rowOf, tableOf, image
 use Rattle.table.specs.Laws.Kinds.{Lawful, number-lawful, cell-lawful}
 use Rattle.table.specs.Laws.Words.{table-length, words-all}
 use Rattle.table.specs.Laws.Images.{are-zeros, words-length, image-length, table-of-image}
+use Rattle.layout.specs.Widths.{entityWidth, cellWidth, netWidth, idWidth, groupWidth}
 use Rattle.layout.specs.Rows.{entityRow, entityOf, netRow, idRow, idOf, groupRow, groupOf, entitiesImage, cellsImage, netImage, idsImage, groupsImage, entitiesIn, cellsIn, netIn, idsIn, groupsIn}
 use Rattle.layout.specs.Facts.{TableLaws, Any, Anyhow}
 use Rattle.layout.specs.Laws.Zeros.{padded}
@@ -89,36 +90,36 @@ module _ {A K : Type 0} (kind : Kind K) (laws : Lawful kind) (w : ℕ) (wide : k
       }
 
 -- The table of entities.
-pub entities-laws : TableLaws 5 entitiesImage entitiesIn Any Anyhow
+pub entities-laws : TableLaws entityWidth entitiesImage entitiesIn Any Anyhow
 unfolding entitiesImage entitiesIn
 entities-laws =
-    table-laws number number-lawful 5 (omega arith) entityRow entityOf Any (λ p g. (refl, refl)) Anyhow
+    table-laws number number-lawful entityWidth (omega arith) entityRow entityOf Any (λ p g. (refl, refl)) Anyhow
     (λ n s f p m e. entity-written (p .0) (p .1) (omega arith))
 
 -- The table of a net list.
-pub net-laws : TableLaws 4 netImage netIn Any Anyhow
+pub net-laws : TableLaws netWidth netImage netIn Any Anyhow
 unfolding netImage netIn
 net-laws =
-    table-laws cell cell-lawful 4 (omega arith) netRow (λ (p : Cell × List ℕ). p .0) Any (λ p g. (refl, refl)) Anyhow
+    table-laws cell cell-lawful netWidth (omega arith) netRow (λ (p : Cell × List ℕ). p .0) Any (λ p g. (refl, refl)) Anyhow
     (λ n s f p m e. net-written (p .0) (p .1) (omega arith))
 
 -- The table of cells with an id.
-pub ids-laws : TableLaws 5 idsImage idsIn Any Anyhow
+pub ids-laws : TableLaws idWidth idsImage idsIn Any Anyhow
 unfolding idsImage idsIn
 ids-laws =
-    table-laws cell cell-lawful 5 (omega arith) idRow idOf Any (λ p g. (refl, refl)) Anyhow
+    table-laws cell cell-lawful idWidth (omega arith) idRow idOf Any (λ p g. (refl, refl)) Anyhow
     (λ n s f p m e. id-written (p .0) (p .1) (omega arith))
 
 -- The table of groups.
-pub groups-laws : TableLaws 9 groupsImage groupsIn Any Anyhow
+pub groups-laws : TableLaws groupWidth groupsImage groupsIn Any Anyhow
 unfolding groupsImage groupsIn
 groups-laws =
-    table-laws number number-lawful 9 (omega arith) groupRow groupOf Any (λ p g. (refl, refl)) Anyhow
+    table-laws number number-lawful groupWidth (omega arith) groupRow groupOf Any (λ p g. (refl, refl)) Anyhow
     (λ n s f p m e. group-written (p .0) (p .1) (omega arith))
 
 -- The table of occupied cells, with their masks.
-pub cells-laws : TableLaws 5 cellsImage cellsIn Any Anyhow
+pub cells-laws : TableLaws cellWidth cellsImage cellsIn Any Anyhow
 unfolding cellsImage cellsIn
 cells-laws =
-    table-laws cell cell-lawful 5 (omega arith) idRow idOf Any (λ p g. (refl, refl)) Anyhow
+    table-laws cell cell-lawful cellWidth (omega arith) idRow idOf Any (λ p g. (refl, refl)) Anyhow
     (λ n s f p m e. id-written (p .0) (p .1) (omega arith))

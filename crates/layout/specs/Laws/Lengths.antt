@@ -3,10 +3,11 @@ use Prim.Native.Nat.{ℕ, _+_, _*_, _≤_}
 use native.Mathlib.Omega.{arith}
 use mathlib.Core.Path.{_≡_, refl}
 use Rattle.model.specs.Update.{mostEntities, mostCells}
+use Rattle.layout.specs.Widths.{headerLen, entityWidth, cellWidth, netWidth, idWidth, groupWidth}
 use Rattle.layout.specs.State.{entitiesLen, cellsLen, netLen, idsLen, groupsLen, entitiesFrom, cellsFrom, occupiedFrom, emptiedFrom, idsFrom, groupsFrom, stateLen}
 
 -- The entities begin behind the header.
-pub header-end : 8 ≡ entitiesFrom
+pub header-end : headerLen ≡ entitiesFrom
 unfolding entitiesFrom
 header-end = refl
 
@@ -41,26 +42,26 @@ unfolding groupsFrom groupsLen stateLen
 groups-end = refl
 
 -- There is room for the most entities.
-pub entities-room : (n : ℕ) → n ≤ mostEntities → 5 * n ≤ entitiesLen
+pub entities-room : (n : ℕ) → n ≤ mostEntities → entityWidth * n ≤ entitiesLen
 unfolding entitiesLen
 entities-room n h = omega arith
 
 -- There is room for the most occupied cells.
-pub cells-room : (n : ℕ) → n ≤ mostCells → 5 * n ≤ cellsLen
+pub cells-room : (n : ℕ) → n ≤ mostCells → cellWidth * n ≤ cellsLen
 unfolding cellsLen
 cells-room n h = omega arith
 
 -- There is room for the most cells of a net list.
-pub net-room : (n : ℕ) → n ≤ mostCells → 4 * n ≤ netLen
+pub net-room : (n : ℕ) → n ≤ mostCells → netWidth * n ≤ netLen
 unfolding netLen
 net-room n h = omega arith
 
 -- There is room for the most cells with an id.
-pub ids-room : (n : ℕ) → n ≤ mostCells → 5 * n ≤ idsLen
+pub ids-room : (n : ℕ) → n ≤ mostCells → idWidth * n ≤ idsLen
 unfolding idsLen
 ids-room n h = omega arith
 
 -- There is room for the most groups.
-pub groups-room : (n : ℕ) → n ≤ mostCells → 9 * n ≤ groupsLen
+pub groups-room : (n : ℕ) → n ≤ mostCells → groupWidth * n ≤ groupsLen
 unfolding groupsLen
 groups-room n h = omega arith

@@ -146,17 +146,3 @@ module _ (c d : Cell) (t : touches c d ≡ true) where
   number-back =
       let p = touches-within c d t in
       number-opposite (placeIn d c) (placeIn c d) (place-opposite c d (p .0)) (off-centre c d (p .0) (p .1))
-
--- The number of a cell in the list of its neighbour.
-pub neighbour-number-back : (c : Cell) → hasRoom 1 c ≡ true → (n : ℕ) → 1 ≤ n → n ≤ 26 → numberOf (neighbourOf c n) c ≡ 27 - n
-neighbour-number-back c room n h k =
-    number-back c (neighbourOf c n) (neighbour-touches c room n h k)
-    ∙ ap (λ (m : ℕ). 27 - m) (number-of-neighbour c room n h k)
-
--- Without room every number stands for the cell itself.
-pub neighbour-self : (c : Cell) → hasRoom 1 c ≡ false → (n : ℕ) → neighbourOf c n ≡ c
-neighbour-self c none n = go (ltb (n - 1) 26)
-  where
-    go : (b : Bool) → orSelf c (cond (b && hasRoom 1 c) (Is (neighbourAt 1 c (n - 1))) Nothing) ≡ c
-    go true = ap (λ (r : Bool). orSelf c (cond r (Is (neighbourAt 1 c (n - 1))) Nothing)) none
-    go false = refl

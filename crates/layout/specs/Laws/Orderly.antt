@@ -3,14 +3,14 @@ use Prim.Native.Nat.{ℕ}
 use mathlib.Core.Path.{_≡_}
 use mathlib.Core.Bool.{Bool, true, _&&_}
 use mathlib.Core.List.{List}
-use lib.Dec.{eqb, leb}
-use lib.ListN.{getD}
-use borrow.Author.Tests.{eqb-true, eq-eqb}
+use lib.Dec.{leb}
 use Rattle.component.specs.Laws.Tests.{both}
 use Rattle.model.specs.Cells.{touch26}
 use Rattle.model.specs.Update.{State, mostEntities, mostCells}
 use Rattle.model.specs.Consistent.{withinNumber, cellsExact, masksExact, idsShared, recordsExact, idsBelowNext, coordinatesInRange, netsInOrder}
-use Rattle.layout.specs.State.{decode, entityWords, cellWords, occupiedWords, emptiedWords, idWords, groupWords, entityCount, cellCount, occupiedCount, emptiedCount, idCount, groupCount}
+use Rattle.table.specs.Rows.{areZero}
+use Rattle.layout.specs.Widths.{entityWidth, cellWidth, netWidth, idWidth, groupWidth}
+use Rattle.layout.specs.State.{decode, spareWords, entityWords, cellWords, occupiedWords, emptiedWords, idWords, groupWords, entityCount, cellCount, occupiedCount, emptiedCount, idCount, groupCount}
 use Rattle.layout.specs.Points.{tidy, point1, point2, point3, point4, point5, point6, point7, point8, consistentWords}
 use Rattle.layout.specs.Facts.{Orderly}
 
@@ -61,29 +61,29 @@ module _ (w : List ℕ) where
   of2 = cellsExact s && of3
 
   -- The parts of the points of words.
-  abbrev last-ok : Bool
-  last-ok = eqb (getD w 7 0) 0
+  abbrev spare-ok : Bool
+  spare-ok = areZero (spareWords w)
 
   abbrev ents-ok : Bool
-  ents-ok = tidy 5 mostEntities (entityCount w) (entityWords w)
+  ents-ok = tidy entityWidth mostEntities (entityCount w) (entityWords w)
 
   abbrev few-ok : Bool
   few-ok = leb (cellCount w) mostCells
 
   abbrev cells-ok : Bool
-  cells-ok = tidy 5 mostCells (cellCount w) (cellWords w)
+  cells-ok = tidy cellWidth mostCells (cellCount w) (cellWords w)
 
   abbrev ids-ok : Bool
-  ids-ok = tidy 5 mostCells (idCount w) (idWords w)
+  ids-ok = tidy idWidth mostCells (idCount w) (idWords w)
 
   abbrev groups-ok : Bool
-  groups-ok = tidy 9 mostCells (groupCount w) (groupWords w)
+  groups-ok = tidy groupWidth mostCells (groupCount w) (groupWords w)
 
   abbrev occs-ok : Bool
-  occs-ok = tidy 4 mostCells (occupiedCount w) (occupiedWords w)
+  occs-ok = tidy netWidth mostCells (occupiedCount w) (occupiedWords w)
 
   abbrev emps-ok : Bool
-  emps-ok = tidy 4 mostCells (emptiedCount w) (emptiedWords w)
+  emps-ok = tidy netWidth mostCells (emptiedCount w) (emptiedWords w)
 
   -- Consistent words are orderly.
   pub orderly-out : consistentWords w ≡ true → Orderly w
@@ -96,7 +96,7 @@ module _ (w : List ℕ) where
       let p5 = both (point5 w) from6 (p4 .1) in
       let p6 = both (point6 w) from7 (p5 .1) in
       let p7 = both (point7 w) (point8 w) (p6 .1) in
-      let a1 = both last-ok (ents-ok && (few-ok && withinNumber s)) (p1 .0) in
+      let a1 = both spare-ok (ents-ok && (few-ok && withinNumber s)) (p1 .0) in
       let a2 = both ents-ok (few-ok && withinNumber s) (a1 .1) in
       let a3 = both few-ok (withinNumber s) (a2 .1) in
       let b1 = both cells-ok (ids-ok && cellsExact s) (p2 .0) in
@@ -105,7 +105,7 @@ module _ (w : List ℕ) where
       let h1 = both occs-ok (emps-ok && netsInOrder s) (p7 .1) in
       let h2 = both emps-ok (netsInOrder s) (h1 .1) in
       record {
-        last = eqb-true (getD w 7 0) 0 (a1 .0);
+        spare-zero = a1 .0;
         entity-rows = a2 .0;
         cell-few = a3 .0;
         cell-rows = b1 .0;
@@ -134,9 +134,8 @@ module _ (w : List ℕ) where
       let p5 = both (recordsExact s) of6 (p4 .1) in
       let p6 = both (idsBelowNext s) of7 (p5 .1) in
       let p7 = both (coordinatesInRange s) (netsInOrder s) (p6 .1) in
-      let last : last-ok ≡ true = eq-eqb (getD w 7 0) 0 (o .last) in
       and-in (point1 w) from2
-      (and-in last-ok (ents-ok && (few-ok && withinNumber s)) last
+      (and-in spare-ok (ents-ok && (few-ok && withinNumber s)) (o .spare-zero)
       (and-in ents-ok (few-ok && withinNumber s) (o .entity-rows) (and-in few-ok (withinNumber s) (o .cell-few) (p1 .0))))
       (and-in (point2 w) from3
       (and-in cells-ok (ids-ok && cellsExact s) (o .cell-rows) (and-in ids-ok (cellsExact s) (o .id-rows) (p2 .0)))

@@ -5,6 +5,7 @@ use mathlib.Core.Path.{_≡_, refl, sym, ap, _∙_}
 use mathlib.Core.List.{List, [], _∷_, _++_}
 use lib.ListN.{length, take, drop, getD, length-append, length-drop, take-append-drop}
 use lib.Seq.{slice, length-take-le, take-append-seam, drop-append-seam, take-add, take-take, drop-drop, drop-at}
+use Rattle.layout.specs.Widths.{spare}
 use Rattle.layout.specs.Facts.{From}
 
 -- Behind its first part a list is the others.
@@ -37,15 +38,14 @@ module _ {w : List ℕ} {f : ℕ} (t : ℕ) (a r : List ℕ) (here : From w f (a
 pub take-more : (w : List ℕ) (f t : ℕ) → f ≤ t → take t w ≡ take f w ++ slice f t w
 take-more w f t h = sym (take-append-drop f (take t w)) ∙ ap (λ (l : List ℕ). l ++ slice f t w) (take-take f t w h)
 
--- The first eight words, one by one.
-pub first-eight : (w : List ℕ) → 8 ≤ length w
-    → take 8 w ≡ getD w 0 0 ∷ getD w 1 0 ∷ getD w 2 0 ∷ getD w 3 0 ∷ getD w 4 0 ∷ getD w 5 0 ∷ getD w 6 0 ∷ getD w 7 0 ∷ []
-first-eight [] h = absurd (omega arith)
-first-eight (a ∷ []) h = absurd (omega arith)
-first-eight (a ∷ b ∷ []) h = absurd (omega arith)
-first-eight (a ∷ b ∷ c ∷ []) h = absurd (omega arith)
-first-eight (a ∷ b ∷ c ∷ d ∷ []) h = absurd (omega arith)
-first-eight (a ∷ b ∷ c ∷ d ∷ e ∷ []) h = absurd (omega arith)
-first-eight (a ∷ b ∷ c ∷ d ∷ e ∷ f ∷ []) h = absurd (omega arith)
-first-eight (a ∷ b ∷ c ∷ d ∷ e ∷ f ∷ g ∷ []) h = absurd (omega arith)
-first-eight (a ∷ b ∷ c ∷ d ∷ e ∷ f ∷ g ∷ i ∷ w) h = refl
+-- The words of the header that have a name, one by one.
+pub first-words : (w : List ℕ) → spare ≤ length w
+    → take spare w ≡ getD w 0 0 ∷ getD w 1 0 ∷ getD w 2 0 ∷ getD w 3 0 ∷ getD w 4 0 ∷ getD w 5 0 ∷ getD w 6 0 ∷ []
+first-words [] h = absurd (omega arith)
+first-words (a ∷ []) h = absurd (omega arith)
+first-words (a ∷ b ∷ []) h = absurd (omega arith)
+first-words (a ∷ b ∷ c ∷ []) h = absurd (omega arith)
+first-words (a ∷ b ∷ c ∷ d ∷ []) h = absurd (omega arith)
+first-words (a ∷ b ∷ c ∷ d ∷ e ∷ []) h = absurd (omega arith)
+first-words (a ∷ b ∷ c ∷ d ∷ e ∷ f ∷ []) h = absurd (omega arith)
+first-words (a ∷ b ∷ c ∷ d ∷ e ∷ f ∷ g ∷ w) h = refl

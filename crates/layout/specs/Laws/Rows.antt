@@ -18,10 +18,6 @@ use Rattle.model.specs.Laws.Members.{all-in, all-out, each-out, each-each, each
 use Rattle.table.specs.Rows.{Kind, number, cell, areZero, areWide}
 use Rattle.layout.specs.Rows.{entityRow, entityOf, netRow, idRow, idOf, groupRow, groupOf}
 
--- An entity's row is read as it was written.
-pub entity-read : (p : ℕ × Cell) → entityOf (entityRow p) ≡ p
-entity-read p = refl
-
 -- The words of an entity's row are written as they were read.
 pub entity-written : (k : ℕ) (ws : List ℕ) → length ws ≡ 4 → entityRow (entityOf (k, ws)) ≡ (k, ws)
 entity-written k [] e = absurd (omega arith)
@@ -31,19 +27,11 @@ entity-written k (a ∷ b ∷ c ∷ []) e = absurd (omega arith)
 entity-written k (a ∷ b ∷ c ∷ d ∷ []) e = refl
 entity-written k (a ∷ b ∷ c ∷ d ∷ f ∷ ws) e = absurd (omega arith)
 
--- The row of a cell with an id is read as it was written.
-pub id-read : (p : Cell × ℕ) → idOf (idRow p) ≡ p
-id-read p = refl
-
 -- The words of the row of a cell with an id are written as they were read.
 pub id-written : (c : Cell) (ws : List ℕ) → length ws ≡ 1 → idRow (idOf (c, ws)) ≡ (c, ws)
 id-written c [] e = absurd (omega arith)
 id-written c (a ∷ []) e = refl
 id-written c (a ∷ b ∷ ws) e = absurd (omega arith)
-
--- A group's row is read as it was written.
-pub group-read : (p : ℕ × Group) → groupOf (groupRow p) ≡ p
-group-read p = refl
 
 -- The words of a group's row are written as they were read.
 pub group-written : (k : ℕ) (ws : List ℕ) → length ws ≡ 8 → groupRow (groupOf (k, ws)) ≡ (k, ws)
@@ -83,7 +71,3 @@ nets-wide t = rows-wide cell 4 netRow t (λ p m. refl)
 -- Rows of cells with an id have 5 words.
 pub ids-wide : (t : List (Cell × ℕ)) → areWide cell 5 (each idRow t) ≡ true
 ids-wide t = rows-wide cell 5 idRow t (λ p m. refl)
-
--- Rows of groups have 9 words.
-pub groups-wide : (t : List (ℕ × Group)) → areWide number 9 (each groupRow t) ≡ true
-groups-wide t = rows-wide number 9 groupRow t (λ p m. refl)

@@ -1,16 +1,25 @@
 -- Where the tables of a state stand in its image.
-use Prim.Native.Nat.{ℕ, _+_}
+use Prim.Native.Nat.{ℕ, _+_, _-_}
 use native.Mathlib.Omega.{arith}
 use mathlib.Core.Path.{_≡_, refl, sym, ap, _∙_, subst}
-use mathlib.Core.List.{List, [], _++_, append-assoc}
-use lib.ListN.{length, length-append, length-drop}
+use mathlib.Core.Bool.{true}
+use mathlib.Core.List.{List, [], _∷_, _++_, append-assoc}
+use lib.ListN.{length, replicate, length-append, length-drop}
+use lib.Seq.{slice}
 use Rattle.model.specs.Update.{State}
+use Rattle.table.specs.Rows.{areZero}
+use Rattle.layout.specs.Widths.{headerLen, spare}
 use Rattle.layout.specs.Rows.{entitiesImage, cellsImage, netImage, idsImage, groupsImage}
 use Rattle.layout.specs.State.{entitiesLen, cellsLen, netLen, idsLen, groupsLen, entitiesFrom, cellsFrom, occupiedFrom, emptiedFrom, idsFrom, groupsFrom, stateLen, header, encode}
 use Rattle.layout.specs.Laws.Images.{entities-laws, cells-laws, net-laws, ids-laws, groups-laws}
 use Rattle.layout.specs.Laws.Lengths.{header-end, entities-end, cells-end, occupied-end, emptied-end, ids-end, groups-end, entities-room, cells-room, net-room, ids-room, groups-room}
-use Rattle.layout.specs.Facts.{From, Fits, Stands}
+use Rattle.layout.specs.Facts.{From, Fits, BeginsWith}
 use Rattle.layout.specs.Laws.Parts.{part-first, part-is, part-next}
+
+-- Behind the header's words with a name stand zeros, up to the entities.
+spare-behind : (a b c d e f g : ℕ) (r : List ℕ) → areZero (slice spare entitiesFrom ((a ∷ b ∷ c ∷ d ∷ e ∷ f ∷ g ∷ replicate (headerLen - spare) 0) ++ r)) ≡ true
+unfolding entitiesFrom
+spare-behind a b c d e f g r = refl
 
 -- Seven parts and a rest, one after the other.
 regroup : (h a b c d e g r : List ℕ) → (h ++ (a ++ (b ++ (c ++ (d ++ (e ++ g)))))) ++ r ≡ h ++ (a ++ (b ++ (c ++ (d ++ (e ++ (g ++ r))))))
@@ -101,7 +110,7 @@ module _ (s : State) (fits : Fits s) where
     from-end : From whole stateLen r
     from-end = part-next stateLen grps r from-groups at-end
 
-    whole-stands : Stands s whole
+    whole-stands : BeginsWith s whole
     whole-stands =
         record {
           entity-count = refl;
@@ -111,7 +120,9 @@ module _ (s : State) (fits : Fits s) where
           id-count = refl;
           group-count = refl;
           next-id = refl;
-          last-zero = refl;
+          spare-zero =
+              spare-behind (length (s .occupancy .entities)) (length (s .occupancy .masks)) (length (s .occupancy .newlyOccupied)) (length (s .occupancy .newlyEmptied))
+              (length (s .groups .ids)) (length (s .records)) (s .groups .next) (ents ++ (cels ++ (occs ++ (emps ++ (idss ++ (grps ++ r))))));
           entity-words = part-is cellsFrom ents (cels ++ (occs ++ (emps ++ (idss ++ (grps ++ r))))) from-entities at-cells;
           cell-words = part-is occupiedFrom cels (occs ++ (emps ++ (idss ++ (grps ++ r)))) from-cells at-occupied;
           occupied-words = part-is emptiedFrom occs (emps ++ (idss ++ (grps ++ r))) from-occupied at-emptied;
@@ -121,8 +132,8 @@ module _ (s : State) (fits : Fits s) where
         }
 
     -- Words that begin with the image of a state.
-    pub image-stands : Stands s (encode s ++ r)
-    image-stands = subst (Stands s) (sym (image-parts r)) whole-stands
+    pub image-stands : BeginsWith s (encode s ++ r)
+    image-stands = subst (BeginsWith s) (sym (image-parts r)) whole-stands
 
   -- The image of a state has as many words as the state.
   pub encode-length : length (encode s) ≡ stateLen

@@ -1,12 +1,12 @@
 -- Words are consistent exactly if they begin with the image of a consistent state, and that state is what they stand for.
-use Prim.Native.Nat.{ℕ, _+_, _*_, _≤_}
+use Prim.Native.Nat.{ℕ, _+_, _-_, _*_, _≤_}
 use native.Mathlib.Omega.{arith}
 use mathlib.Core.Path.{_≡_, sym, ap, _∙_, subst}
 use mathlib.Core.Bool.{true, _&&_, _||_}
 use mathlib.Core.Logic.{_↔_}
 use mathlib.Core.List.{List, [], _∷_, _++_, append-assoc, List·Memᴰ as Mem}
 use lib.Dec.{T, leb}
-use lib.ListN.{length, take, drop, getD, take-append-drop}
+use lib.ListN.{length, take, drop, replicate, take-append-drop}
 use lib.Seq.{slice, length-slice}
 use borrow.Author.Tests.{leb-true, le-leb}
 use Rattle.component.specs.Adjacent.{hasRoom}
@@ -21,13 +21,15 @@ use Rattle.model.specs.Laws.Values.{value-in}
 use Rattle.model.specs.Laws.Touching.{touching-26}
 use Rattle.model.specs.Laws.Consistency.{Ok, ok-out}
 use Rattle.table.specs.Rows.{areZero}
+use Rattle.table.specs.Laws.Images.{zeros-are}
+use Rattle.layout.specs.Widths.{headerLen, spare, entityWidth, cellWidth, netWidth, idWidth, groupWidth}
 use Rattle.layout.specs.Rows.{entitiesImage, cellsImage, netImage, idsImage, groupsImage, entitiesIn, cellsIn, netIn, idsIn, groupsIn}
-use Rattle.layout.specs.State.{entitiesLen, cellsLen, netLen, idsLen, groupsLen, entitiesFrom, cellsFrom, occupiedFrom, emptiedFrom, idsFrom, groupsFrom, stateLen, header, encode, decode, entityWords, cellWords, occupiedWords, emptiedWords, idWords, groupWords, entityCount, cellCount, occupiedCount, emptiedCount, idCount, groupCount}
+use Rattle.layout.specs.State.{entitiesLen, cellsLen, netLen, idsLen, groupsLen, entitiesFrom, cellsFrom, occupiedFrom, emptiedFrom, idsFrom, groupsFrom, stateLen, header, encode, decode, spareWords, entityWords, cellWords, occupiedWords, emptiedWords, idWords, groupWords, entityCount, cellCount, occupiedCount, emptiedCount, idCount, groupCount, nextId}
 use Rattle.layout.specs.Points.{tidy, longEnough, consistentWords}
-use Rattle.layout.specs.Facts.{TableLaws, Fits, Stands, Orderly}
+use Rattle.layout.specs.Facts.{TableLaws, Fits, BeginsWith, Orderly}
 use Rattle.layout.specs.Laws.Images.{entities-laws, cells-laws, net-laws, ids-laws, groups-laws}
 use Rattle.layout.specs.Laws.Lengths.{header-end, entities-end, cells-end, occupied-end, emptied-end, ids-end, groups-end, entities-room, cells-room, net-room, ids-room, groups-room}
-use Rattle.layout.specs.Laws.Parts.{take-more, first-eight}
+use Rattle.layout.specs.Laws.Parts.{take-more, first-words}
 use Rattle.layout.specs.Laws.Fitting.{consistent-fits}
 use Rattle.layout.specs.Laws.Standing.{image-stands}
 use Rattle.layout.specs.Theorems.DecodeEncode.{decode-longer}
@@ -89,12 +91,19 @@ module _ (w : List ℕ) (long : stateLen ≤ length w) where
       ∙ regroup (take entitiesFrom w) (entityWords w) (cellWords w) (occupiedWords w) (emptiedWords w) (idWords w) (groupWords w)
 
   module _ (o : Orderly w) where
+    -- The spare words are zeros.
+    spare-is : spareWords w ≡ replicate (headerLen - spare) 0
+    spare-is =
+        zeros-are (spareWords w) (T-true (o .spare-zero))
+        ∙ ap (λ (n : ℕ). replicate n 0) (part-length w spare (headerLen - spare) entitiesFrom header-end entities-fit)
+
     -- The header is that of the state.
     header-is : take entitiesFrom w ≡ header (decode w)
     unfolding decode
     header-is =
-        ap (λ (n : ℕ). take n w) (sym header-end)
-        ∙ first-eight w (omega (arith, entities-fit, header-end))
+        let room : spare ≤ entitiesFrom = omega (arith, header-end) in
+        take-more w spare entitiesFrom room
+        ∙ ap (λ (l : List ℕ). l ++ spareWords w) (first-words w (omega (arith, entities-fit, room)))
         ∙ (λ i.
         sym (entities-laws .counted (entityCount w) (entityWords w)) i
         ∷ sym (cells-laws .counted (cellCount w) (cellWords w)) i
@@ -102,7 +111,7 @@ module _ (w : List ℕ) (long : stateLen ≤ length w) where
         ∷ sym (net-laws .counted (emptiedCount w) (emptiedWords w)) i
         ∷ sym (ids-laws .counted (idCount w) (idWords w)) i
         ∷ sym (groups-laws .counted (groupCount w) (groupWords w)) i
-        ∷ getD w 6 0 ∷ o .last i ∷ [])
+        ∷ nextId w ∷ spare-is i)
 
     -- The words of a consistent state are its image.
     words-image : take stateLen w ≡ encode (decode w)
@@ -141,16 +150,16 @@ pub image-consistent : (s : State) (rest : List ℕ) → T (consistent touch26 s
 image-consistent s rest t =
     let w : List ℕ = encode s ++ rest in
     let f : Fits s = consistent-fits s t in
-    let st : Stands s w = image-stands s f rest in
+    let st : BeginsWith s w = image-stands s f rest in
     orderly-in w (record {
-      last = st .last-zero;
-      entity-rows = (λ i. tidy 5 mostEntities (st .entity-count i) (st .entity-words i)) ∙ image-tidy entities-laws mostEntities entitiesLen (s .occupancy .entities) (λ a m. tt) (f .entities);
+      spare-zero = st .spare-zero;
+      entity-rows = (λ i. tidy entityWidth mostEntities (st .entity-count i) (st .entity-words i)) ∙ image-tidy entities-laws mostEntities entitiesLen (s .occupancy .entities) (λ a m. tt) (f .entities);
       cell-few = ap (λ (n : ℕ). leb n mostCells) (st .cell-count) ∙ le-leb (length (s .occupancy .masks)) mostCells (f .cells);
-      cell-rows = (λ i. tidy 5 mostCells (st .cell-count i) (st .cell-words i)) ∙ image-tidy cells-laws mostCells cellsLen (s .occupancy .masks) (λ a m. tt) (f .cells);
-      id-rows = (λ i. tidy 5 mostCells (st .id-count i) (st .id-words i)) ∙ image-tidy ids-laws mostCells idsLen (s .groups .ids) (λ a m. tt) (f .ids);
-      group-rows = (λ i. tidy 9 mostCells (st .group-count i) (st .group-words i)) ∙ image-tidy groups-laws mostCells groupsLen (s .records) (λ a m. tt) (f .groups);
-      occupied-rows = (λ i. tidy 4 mostCells (st .occupied-count i) (st .occupied-words i)) ∙ image-tidy net-laws mostCells netLen (s .occupancy .newlyOccupied) (λ a m. tt) (f .newly-occupied);
-      emptied-rows = (λ i. tidy 4 mostCells (st .emptied-count i) (st .emptied-words i)) ∙ image-tidy net-laws mostCells netLen (s .occupancy .newlyEmptied) (λ a m. tt) (f .newly-emptied);
+      cell-rows = (λ i. tidy cellWidth mostCells (st .cell-count i) (st .cell-words i)) ∙ image-tidy cells-laws mostCells cellsLen (s .occupancy .masks) (λ a m. tt) (f .cells);
+      id-rows = (λ i. tidy idWidth mostCells (st .id-count i) (st .id-words i)) ∙ image-tidy ids-laws mostCells idsLen (s .groups .ids) (λ a m. tt) (f .ids);
+      group-rows = (λ i. tidy groupWidth mostCells (st .group-count i) (st .group-words i)) ∙ image-tidy groups-laws mostCells groupsLen (s .records) (λ a m. tt) (f .groups);
+      occupied-rows = (λ i. tidy netWidth mostCells (st .occupied-count i) (st .occupied-words i)) ∙ image-tidy net-laws mostCells netLen (s .occupancy .newlyOccupied) (λ a m. tt) (f .newly-occupied);
+      emptied-rows = (λ i. tidy netWidth mostCells (st .emptied-count i) (st .emptied-words i)) ∙ image-tidy net-laws mostCells netLen (s .occupancy .newlyEmptied) (λ a m. tt) (f .newly-emptied);
       yard = ap (consistent touch26) (decode-longer s t rest) ∙ true-of (consistent touch26 s) t;
     })
 

@@ -10,12 +10,12 @@ use Rattle.model.specs.Consistent.{consistent}
 use Rattle.layout.specs.Rows.{entitiesIn, cellsIn, netIn, idsIn, groupsIn}
 use Rattle.layout.specs.State.{entitiesLen, cellsLen, netLen, idsLen, groupsLen, stateLen, encode, decode, entityWords, cellWords, occupiedWords, emptiedWords, idWords, groupWords, entityCount, cellCount, occupiedCount, emptiedCount, idCount, groupCount}
 use Rattle.layout.specs.Laws.Images.{entities-laws, cells-laws, net-laws, ids-laws, groups-laws}
-use Rattle.layout.specs.Facts.{Fits, Stands}
+use Rattle.layout.specs.Facts.{Fits, BeginsWith}
 use Rattle.layout.specs.Laws.Fitting.{consistent-fits}
 use Rattle.layout.specs.Laws.Standing.{image-stands, encode-length}
 
 -- Words that begin with the image of a state that fits stand for that state.
-pub decode-stands : (s : State) (w : List ℕ) → Fits s → Stands s w → decode w ≡ s
+pub decode-stands : (s : State) (w : List ℕ) → Fits s → BeginsWith s w → decode w ≡ s
 unfolding decode
 decode-stands s w fits st =
     let entities : entitiesIn (entityCount w) (entityWords w) ≡ s .occupancy .entities =

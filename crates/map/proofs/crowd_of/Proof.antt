@@ -1,7 +1,8 @@
 -- After i rows the crowd is the tally of the first i entities.
+use Rattle.layout.specs.Widths.{crowdWidth}
 use Rattle.map.proofs.Tallying.{count-none, count-room, count-fits, count-more, count-all}
 use Rattle.map.specs.Held.{tally}
-use Rattle.map.specs.Told.{Shows}
+use Rattle.map.specs.Told.{TableIs}
 use Rattle.table.specs.Rows.{cell}
 use Rattle.layout.specs.Rows.{idRow, entitiesIn}
 use Rattle.model.specs.Lists.{each}
@@ -14,7 +15,7 @@ use Rattle.map.proofs.crowd_of.Statement.{statement}
 use Rattle.map.proofs.crowd_of.Tie as tie
 
 abbrev Inv-loop : tie.InvT-loop
-Inv-loop ents n crowd₀ m₀ i₀ crowd m i = (i ≤ n) × (length crowd ≡ length crowd₀) × (Shows cell 5 m crowd (each idRow (tally (entitiesIn i ents))))
+Inv-loop ents n crowd₀ m₀ i₀ crowd m i = (i ≤ n) × (length crowd ≡ length crowd₀) × (TableIs cell crowdWidth m crowd (each idRow (tally (entitiesIn i ents))))
 
 abbrev μ-loop : tie.MeasureT-loop
 μ-loop ents n crowd₀ m₀ i₀ crowd m i = n - i
@@ -70,7 +71,7 @@ returns c =
     let a = c .before .before .before .before .args in let l = c .before .loop in
     let e : l .i ≡ a .n = omega arith in
     count-all (a .ents .now) (l .crowd) (length (a .crowd .now)) (l .m) (a .n) (l .inv .1)
-    (subst (λ (k : ℕ). Shows cell 5 (l .m) (l .crowd) (each idRow (tally (entitiesIn k (a .ents .now))))) e (l .inv .2))
+    (subst (λ (k : ℕ). TableIs cell crowdWidth (l .m) (l .crowd) (each idRow (tally (entitiesIn k (a .ents .now))))) e (l .inv .2))
 
 pub crowd-of-spec : {M : Type 1} → statement M
 crowd-of-spec =

@@ -1,4 +1,5 @@
 -- Each way out is one of `Passing`: the cell was empty, or it was not.
+use Rattle.layout.specs.Widths.{crowdWidth}
 use Rattle.map.proofs.Passing.{crowd-shows, enters-fits, enters-nobody, enters-somebody, enters-opens, entered}
 use Rattle.table.specs.Laws.Next.{room-space}
 use Rattle.table.specs.Rows.{cell}
@@ -19,7 +20,7 @@ add-set-count c =
 set-count-requires : tie.Need-set-count-requires
 set-count-requires c κs =
     let s = c .before .before .before .before .before .before .before in let a = s .args in
-    (crowd-shows (a .cells .now) (a .crowd .now) (a .occ .now) (a .emp .now) (a .n) (s .pre .1) (s .pre .2 .peopled) .table, room-space cell 5 (a .n .cells) (a .crowd .now) (a .c) (s .pre .2 .crowd-room))
+    (crowd-shows (a .cells .now) (a .crowd .now) (a .occ .now) (a .emp .now) (a .n) (s .pre .1) (s .pre .2 .peopled) .table, room-space cell crowdWidth (a .n .cells) (a .crowd .now) (a .c) (s .pre .2 .crowd-room))
 
 insert-entry-requires : tie.Need-insert-entry-requires
 insert-entry-requires c κs =

@@ -1,4 +1,5 @@
 -- The tables are those of `Entries`, opened.
+use Rattle.layout.specs.Widths.{cellWidth}
 use Rattle.map.proofs.Entries.{opens-shown, opened-stored}
 use Rattle.table.specs.Rows.{cell}
 use Rattle.table.specs.Laws.Next.{room-space}
@@ -18,7 +19,7 @@ slice-aggregate-put4 : tie.Need-slice-aggregate-put4
 slice-aggregate-put4 c = search needs
 
 put4-requires : tie.Need-put4-requires
-put4-requires c κs = let s = c .before .before .before .before .before .before .before .before .before .before .before in let a = s .args in (c .before .before .before .before .tell .ensures .table, room-space cell 5 (a .n .cells) (c .before .before .before .before .tell .last .0) (a .c) (omega (arith, s .pre .1 .space .cells-room, c .before .before .before .before .tell .kept .0)))
+put4-requires c κs = let s = c .before .before .before .before .before .before .before .before .before .before .before in let a = s .args in (c .before .before .before .before .tell .ensures .table, room-space cell cellWidth (a .n .cells) (c .before .before .before .before .tell .last .0) (a .c) (omega (arith, s .pre .1 .space .cells-room, c .before .before .before .before .tell .kept .0)))
 
 cross-requires : tie.Need-cross-requires
 cross-requires c κs = let s = c .before .before .before .before .before .before .before .before .before .before .before .before .before .before .before .before in let a = s .args in let x = opens-shown (a .cells .now) (a .occ .now) (a .emp .now) (a .n) (a .c) (s .pre .0) (s .pre .1) in (x .emptied .table, x .opened .table, s .pre .1 .space .occupied-room)

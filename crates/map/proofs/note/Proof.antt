@@ -1,4 +1,5 @@
 -- After k numbers the bits of the first k neighbours are noted.
+use Rattle.layout.specs.Widths.{cellWidth}
 use Rattle.map.specs.Laws.Tables.{note-none, note-yes, note-no}
 use Rattle.map.specs.Told.{noted}
 use Rattle.table.specs.Rows.{cell, table4}
@@ -15,13 +16,13 @@ use Rattle.map.proofs.note.Statement.{statement}
 use Rattle.map.proofs.note.Tie as tie
 
 abbrev Inv-loop : tie.InvT-loop
-Inv-loop cells m c mask₀ near₀ k₀ mask near k = (k ≤ 26) × (mask ≡ noted (keys (table4 5 m cells)) (neighbourOf c) k)
+Inv-loop cells m c mask₀ near₀ k₀ mask near k = (k ≤ 26) × (mask ≡ noted (keys (table4 cellWidth m cells)) (neighbourOf c) k)
 
 abbrev μ-loop : tie.MeasureT-loop
 μ-loop cells m c mask₀ near₀ k₀ mask near k = 26 - k
 
 loop-holds : tie.Need-loop-holds Inv-loop μ-loop
-loop-holds c = let a = c .before .args in (omega arith, note-none (keys (table4 5 (a .m) (a .cells .now))) (neighbourOf (a .c)))
+loop-holds c = let a = c .before .args in (omega arith, note-none (keys (table4 cellWidth (a .m) (a .cells .now))) (neighbourOf (a .c)))
 
 add-neighbour-of : tie.Need-add-neighbour-of Inv-loop μ-loop
 add-neighbour-of c = search needs
@@ -48,7 +49,7 @@ loop-less : tie.Need-loop-less Inv-loop μ-loop
 loop-less c = search needs
 
 loop-again : tie.Need-loop-again Inv-loop μ-loop
-loop-again c = let a = c .before .before .before .before .before .before .before .before .before .args in let l = c .before .before .before .before .before .before .before .loop in (omega arith, note-yes (keys (table4 5 (a .m) (a .cells .now))) (neighbourOf (a .c)) (l .k) (l .mask) (l .inv .1) (ap (has same (keys (table4 5 (a .m) (a .cells .now)))) (sym (c .before .before .before .before .before .neighbour-of .ensures)) ∙ sym (is-among cell cell-lawful 5 (a .m) (a .cells .now) (c .before .before .before .before .before .before .before .before .before .pre) (c .before .before .before .before .before .neighbour-of .result) (c .before .before .before .before .find4-near .result) (c .before .before .before .before .find4-near .ensures)) ∙ sym (c .before .before .is-found .ensures) ∙ c .before .if1 .taken) (c .set .result) (c .set .ensures))
+loop-again c = let a = c .before .before .before .before .before .before .before .before .before .args in let l = c .before .before .before .before .before .before .before .loop in (omega arith, note-yes (keys (table4 cellWidth (a .m) (a .cells .now))) (neighbourOf (a .c)) (l .k) (l .mask) (l .inv .1) (ap (has same (keys (table4 cellWidth (a .m) (a .cells .now)))) (sym (c .before .before .before .before .before .neighbour-of .ensures)) ∙ sym (is-among cell cell-lawful cellWidth (a .m) (a .cells .now) (c .before .before .before .before .before .before .before .before .before .pre) (c .before .before .before .before .before .neighbour-of .result) (c .before .before .before .before .find4-near .result) (c .before .before .before .before .find4-near .ensures)) ∙ sym (c .before .before .is-found .ensures) ∙ c .before .if1 .taken) (c .set .result) (c .set .ensures))
 
 add-k-2 : tie.Need-add-k-2 Inv-loop μ-loop
 add-k-2 c = search needs
@@ -57,14 +58,14 @@ loop-less-2 : tie.Need-loop-less-2 Inv-loop μ-loop
 loop-less-2 c = search needs
 
 loop-again-2 : tie.Need-loop-again-2 Inv-loop μ-loop
-loop-again-2 c = let a = c .before .before .before .before .before .before .before .before .args in let l = c .before .before .before .before .before .before .loop in (omega arith, note-no (keys (table4 5 (a .m) (a .cells .now))) (neighbourOf (a .c)) (l .k) (l .mask) (l .inv .1) (ap (has same (keys (table4 5 (a .m) (a .cells .now)))) (sym (c .before .before .before .before .neighbour-of .ensures)) ∙ sym (is-among cell cell-lawful 5 (a .m) (a .cells .now) (c .before .before .before .before .before .before .before .before .pre) (c .before .before .before .before .neighbour-of .result) (c .before .before .before .find4-near .result) (c .before .before .before .find4-near .ensures)) ∙ sym (c .before .is-found .ensures) ∙ c .if1 .left))
+loop-again-2 c = let a = c .before .before .before .before .before .before .before .before .args in let l = c .before .before .before .before .before .before .loop in (omega arith, note-no (keys (table4 cellWidth (a .m) (a .cells .now))) (neighbourOf (a .c)) (l .k) (l .mask) (l .inv .1) (ap (has same (keys (table4 cellWidth (a .m) (a .cells .now)))) (sym (c .before .before .before .before .neighbour-of .ensures)) ∙ sym (is-among cell cell-lawful cellWidth (a .m) (a .cells .now) (c .before .before .before .before .before .before .before .before .pre) (c .before .before .before .before .neighbour-of .result) (c .before .before .before .find4-near .result) (c .before .before .before .find4-near .ensures)) ∙ sym (c .before .is-found .ensures) ∙ c .if1 .left))
 
 returns : tie.Need-returns Inv-loop μ-loop
 returns c =
     let a = c .before .before .before .args in
     let l = c .before .loop in
     let e : l .k ≡ 26 = omega arith in
-    l .inv .1 ∙ ap (noted (keys (table4 5 (a .m) (a .cells .now))) (neighbourOf (a .c))) e
+    l .inv .1 ∙ ap (noted (keys (table4 cellWidth (a .m) (a .cells .now))) (neighbourOf (a .c))) e
 
 pub note-spec : {M : Type 1} → statement M
 note-spec =

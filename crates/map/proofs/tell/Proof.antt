@@ -1,6 +1,7 @@
 -- After k numbers the first k neighbours are told.
+use Rattle.layout.specs.Widths.{cellWidth}
 use Rattle.map.specs.Laws.Tables.{told-none, told-more}
-use Rattle.map.specs.Told.{Shows, toldOne, told}
+use Rattle.map.specs.Told.{TableIs, toldOne, told}
 use Rattle.table.specs.Rows.{cell, table4}
 use Rattle.layout.specs.Rows.{neighbourOf}
 use Rattle.model.specs.Lists.{change}
@@ -13,7 +14,7 @@ use Rattle.map.proofs.tell.Statement.{statement}
 use Rattle.map.proofs.tell.Tie as tie
 
 abbrev Inv-loop : tie.InvT-loop
-Inv-loop cells₀ m c joins near₀ k₀ cells near k = (k ≤ 26) × (length cells ≡ length cells₀) × (Shows cell 5 m cells (change (told joins (neighbourOf c) k) (table4 5 m cells₀)))
+Inv-loop cells₀ m c joins near₀ k₀ cells near k = (k ≤ 26) × (length cells ≡ length cells₀) × (TableIs cell cellWidth m cells (change (told joins (neighbourOf c) k) (table4 cellWidth m cells₀)))
 
 abbrev μ-loop : tie.MeasureT-loop
 μ-loop cells₀ m c joins near₀ k₀ cells near k = 26 - k
@@ -21,7 +22,7 @@ abbrev μ-loop : tie.MeasureT-loop
 loop-holds : tie.Need-loop-holds Inv-loop μ-loop
 loop-holds c =
     let a = c .before .args in
-    (omega arith, refl, record { table = c .before .pre; is = told-none (a .joins) (neighbourOf (a .c)) (table4 5 (a .m) (a .cells .now)) })
+    (omega arith, refl, record { table = c .before .pre; is = told-none (a .joins) (neighbourOf (a .c)) (table4 cellWidth (a .m) (a .cells .now)) })
 
 add-tell-one : tie.Need-add-tell-one Inv-loop μ-loop
 add-tell-one c = search needs
@@ -39,10 +40,10 @@ loop-again : tie.Need-loop-again Inv-loop μ-loop
 loop-again c =
     let a = c .before .before .before .before .before .before .before .args in
     let l = c .before .before .before .before .before .loop in
-    let r = c .before .before .tell-one .ensures in (
+    let r = c .before .before .tell-one .ensures .1 in (
       omega arith,
       c .before .before .tell-one .kept .0 ∙ l .inv .1,
-      record { table = r .table; is = r .is ∙ ap (change (toldOne (a .joins) (neighbourOf (a .c) (l .k + 1)) (26 - (l .k + 1)))) (l .inv .2 .is) ∙ told-more (a .joins) (neighbourOf (a .c)) (l .k) (table4 5 (a .m) (a .cells .now)) },
+      record { table = r .table; is = r .is ∙ ap (change (toldOne (a .joins) (neighbourOf (a .c) (l .k + 1)) (26 - (l .k + 1)))) (l .inv .2 .is) ∙ told-more (a .joins) (neighbourOf (a .c)) (l .k) (table4 cellWidth (a .m) (a .cells .now)) },
     )
 
 same-length : tie.Need-same-length Inv-loop μ-loop
@@ -53,7 +54,7 @@ returns c =
     let a = c .before .before .before .args in
     let l = c .before .loop in
     let e : l .k ≡ 26 = omega arith in
-    record { table = l .inv .2 .table; is = l .inv .2 .is ∙ ap (λ (k : ℕ). change (told (a .joins) (neighbourOf (a .c)) k) (table4 5 (a .m) (a .cells .now))) e }
+    record { table = l .inv .2 .table; is = l .inv .2 .is ∙ ap (λ (k : ℕ). change (told (a .joins) (neighbourOf (a .c)) k) (table4 cellWidth (a .m) (a .cells .now))) e }
 
 pub tell-spec : {M : Type 1} → statement M
 tell-spec =

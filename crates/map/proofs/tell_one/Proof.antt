@@ -1,6 +1,7 @@
 -- The row that is found is revised; where there is none, nothing changes.
+use Rattle.layout.specs.Widths.{cellWidth}
 use Rattle.map.proofs.Steps.{found-row, told-found, told-missing}
-use Rattle.table.specs.Rows.{table4, placeOf}
+use Rattle.table.specs.Rows.{placed, table4, placeOf}
 use Rattle.layout.specs.Rows.{neighbourOf}
 use Rattle.model.specs.Lists.{keys}
 use Rattle.component.specs.Order.{below}
@@ -27,7 +28,7 @@ revise-requires : tie.Need-revise-requires
 revise-requires c κs =
     let s = c .before .before .before .before .before .before .before .before in (
       found-row (s .args .m) (s .args .cells .now) (s .pre .0) (s .args .joins) (neighbourOf (s .args .c) (s .args .k)) (26 - s .args .k) (c .before .before .p .given .0 .0)
-          (sym (c .before .before .p .given .1) ∙ c .before .before .before .before .find4-near .ensures ∙ ap (placeOf below (keys (table4 5 (s .args .m) (s .args .cells .now)))) (c .before .before .before .before .before .neighbour-of .ensures)),
+          (sym (c .before .before .p .given .1) ∙ c .before .before .before .before .find4-near .ensures ∙ ap (placeOf below (keys (table4 cellWidth (s .args .m) (s .args .cells .now)))) (c .before .before .before .before .before .neighbour-of .ensures)),
       omega arith,
     )
 
@@ -40,9 +41,11 @@ same-length c = search needs
 returns : tie.Need-returns
 returns c =
     let s = c .before .before .before .before .before .before .before .before .before .before .before in
-    told-found (s .args .m) (s .args .cells .now) (s .pre .0) (s .args .joins) (neighbourOf (s .args .c) (s .args .k)) (26 - s .args .k) (c .before .before .before .before .before .p .given .0 .0)
-    (sym (c .before .before .before .before .before .p .given .1) ∙ c .before .before .before .before .before .before .before .find4-near .ensures ∙ ap (placeOf below (keys (table4 5 (s .args .m) (s .args .cells .now)))) (c .before .before .before .before .before .before .before .before .neighbour-of .ensures))
-    (c .before .before .revise .last .0) (c .before .before .revise .ensures)
+    let e = sym (c .before .before .before .before .before .p .given .1) ∙ c .before .before .before .before .before .before .before .find4-near .ensures ∙ ap (placeOf below (keys (table4 cellWidth (s .args .m) (s .args .cells .now)))) (c .before .before .before .before .before .before .before .before .neighbour-of .ensures) in (
+      ap placed e,
+      told-found (s .args .m) (s .args .cells .now) (s .pre .0) (s .args .joins) (neighbourOf (s .args .c) (s .args .k)) (26 - s .args .k) (c .before .before .before .before .before .p .given .0 .0) e
+          (c .before .before .revise .last .0) (c .before .before .revise .ensures),
+    )
 
 same-length-2 : tie.Need-same-length-2
 same-length-2 c = search needs
@@ -50,8 +53,8 @@ same-length-2 c = search needs
 returns-2 : tie.Need-returns-2
 returns-2 c =
     let s = c .before .before .before .before .before .before .before in
-    told-missing (s .args .m) (s .args .cells .now) (s .pre .0) (s .args .joins) (neighbourOf (s .args .c) (s .args .k)) (26 - s .args .k) (c .before .p2 .given .0 .0)
-    (sym (c .before .p2 .given .1) ∙ c .before .before .before .find4-near .ensures ∙ ap (placeOf below (keys (table4 5 (s .args .m) (s .args .cells .now)))) (c .before .before .before .before .neighbour-of .ensures))
+    let e = sym (c .before .p2 .given .1) ∙ c .before .before .before .find4-near .ensures ∙ ap (placeOf below (keys (table4 cellWidth (s .args .m) (s .args .cells .now)))) (c .before .before .before .before .neighbour-of .ensures) in
+    (ap placed e, told-missing (s .args .m) (s .args .cells .now) (s .pre .0) (s .args .joins) (neighbourOf (s .args .c) (s .args .k)) (26 - s .args .k) (c .before .p2 .given .0 .0) e)
 
 pub tell-one-spec : {M : Type 1} → statement M
 tell-one-spec =

@@ -18,7 +18,7 @@ use Rattle.model.specs.Laws.Sorted.{Asc, add-out, add-in, add-self, add-asc, ad
 use Rattle.model.specs.Laws.Tables.{At, Free, asc-mem-at, key-at, key-free, free-key, of-free, get-put-self, get-put-other, get-drop-other, get-drop-self, free-of, put-asc, drop-asc, put-old, mem-put-out, put-self, put-in, table-equal, table-same}
 use Rattle.model.specs.Laws.Occupied.{Sound, occupied-asc, occupied-enter, occupied-leave, occupied-stands, at-occupied}
 use Rattle.layout.specs.Rows.{idRow}
-use Rattle.map.specs.Held.{standing, tallied, tally, crowdOf, counted}
+use Rattle.map.specs.Held.{howMany, tallied, tally, crowdOf, counted}
 use Rattle.map.specs.Laws.Each.{under, get-each}
 
 -- Some member passes exactly if those that pass are not none.
@@ -51,27 +51,27 @@ module _ {K W : Type 0} {eq lt : K → K → Bool} (laws : Ordered eq lt) (p : K
 
 module _ (t : List (ℕ × Cell)) (e : ℕ) (c : Cell) (free : Mem e (keys t) → ⊥) where
   -- One more stands in the cell that is entered.
-  pub standing-here : standing (put ltb e c t) c ≡ suc (standing t c)
-  unfolding standing
+  pub standing-here : howMany (put ltb e c t) c ≡ suc (howMany t c)
+  unfolding howMany
   standing-here =
       passing-put numbers (λ (p : ℕ × Cell). same c (p .1)) e c t free
       ∙ ap length (cond-yes (same c c) ((e, c) ∷ keep (λ (p : ℕ × Cell). same c (p .1)) t) (keep (λ (p : ℕ × Cell). same c (p .1)) t) (cells .same-self c))
 
   -- As many stand in every other.
-  pub standing-there : (a : Cell) → (a ≡ c → ⊥) → standing (put ltb e c t) a ≡ standing t a
-  unfolding standing
+  pub standing-there : (a : Cell) → (a ≡ c → ⊥) → howMany (put ltb e c t) a ≡ howMany t a
+  unfolding howMany
   standing-there a n =
       passing-put numbers (λ (p : ℕ × Cell). same a (p .1)) e c t free
       ∙ ap length (cond-no (same a c) ((e, c) ∷ keep (λ (p : ℕ × Cell). same a (p .1)) t) (keep (λ (p : ℕ × Cell). same a (p .1)) t) (differ cells n))
 
 -- Some entity stands in the cell exactly if the number is not 0.
-pub stands-counted : (t : List (ℕ × Cell)) (c : Cell) → standsIn t c ≡ ltb 0 (standing t c)
-unfolding standing
+pub stands-counted : (t : List (ℕ × Cell)) (c : Cell) → standsIn t c ≡ ltb 0 (howMany t c)
+unfolding howMany
 stands-counted t c = any-counted (λ (p : ℕ × Cell). same c (p .1)) t
 
 -- No more stand in a cell than there are.
-pub standing-few : (t : List (ℕ × Cell)) (c : Cell) → standing t c ≤ length t
-unfolding standing
+pub standing-few : (t : List (ℕ × Cell)) (c : Cell) → howMany t c ≤ length t
+unfolding howMany
 standing-few t c = keep-shorter (λ (p : ℕ × Cell). same c (p .1)) t
 
 module _ {K W : Type 0} {eq lt : K → K → Bool} (laws : Ordered eq lt) (t : List (K × W)) (k : K) (v : W) (s : Asc lt (keys t)) where
@@ -91,12 +91,12 @@ module _ (t : List (ℕ × Cell)) (e : ℕ) (c : Cell) (s : Asc ltb (keys t)) (p
   gone m = let r = key-at numbers (dropKey eqb e t) m in free-of (dropKey eqb e t) e (get-drop-self numbers t e) (r .0) (r .1)
 
   -- One fewer stands in the cell that is left.
-  pub left-here : standing t c ≡ suc (standing (dropKey eqb e t) c)
-  left-here = ap (λ (u : List (ℕ × Cell)). standing u c) (sym (put-dropped numbers t e c s p)) ∙ standing-here (dropKey eqb e t) e c gone
+  pub left-here : howMany t c ≡ suc (howMany (dropKey eqb e t) c)
+  left-here = ap (λ (u : List (ℕ × Cell)). howMany u c) (sym (put-dropped numbers t e c s p)) ∙ standing-here (dropKey eqb e t) e c gone
 
   -- As many stand in every other.
-  pub left-there : (a : Cell) → (a ≡ c → ⊥) → standing (dropKey eqb e t) a ≡ standing t a
-  left-there a n = sym (standing-there (dropKey eqb e t) e c gone a n) ∙ ap (λ (u : List (ℕ × Cell)). standing u a) (put-dropped numbers t e c s p)
+  pub left-there : (a : Cell) → (a ≡ c → ⊥) → howMany (dropKey eqb e t) a ≡ howMany t a
+  left-there a n = sym (standing-there (dropKey eqb e t) e c gone a n) ∙ ap (λ (u : List (ℕ × Cell)). howMany u a) (put-dropped numbers t e c s p)
 
 -- The keys of a tally are its cells.
 pub tallied-keys : (f : Cell → ℕ) (l : List Cell) → keys (tallied f l) ≡ l
@@ -140,26 +140,26 @@ module _ (f g : Cell → ℕ) (c : Cell) (l : List Cell) where
 -- The rows of a tally of the cells where entities stand.
 module _ (t : List (ℕ × Cell)) (l : List Cell) (asc : Asc below l) (agree : (c : Cell) → standsIn t c ≡ has same l c) where
   abbrev rows : List (Cell × ℕ)
-  rows = tallied (standing t) l
+  rows = tallied (howMany t) l
 
-  look : (c : Cell) (b : Bool) → has same l c ≡ b → get same rows c ≡ cond b (some (standing t c)) none
-  look c true h = asc-mem-at cells rows (subst (Asc below) (sym (tallied-keys (standing t) l)) asc) (each-in (λ a. (a, standing t a)) (of-has cells l (T-true h))) .is
+  look : (c : Cell) (b : Bool) → has same l c ≡ b → get same rows c ≡ cond b (some (howMany t c)) none
+  look c true h = asc-mem-at cells rows (subst (Asc below) (sym (tallied-keys (howMany t) l)) asc) (each-in (λ a. (a, howMany t a)) (of-has cells l (T-true h))) .is
   look c false h =
-      of-free rows c (free-key cells rows (λ m. T-not (has same l c) (T-false h) (has-of cells (subst (λ k. Mem c k) (tallied-keys (standing t) l) m))))
+      of-free rows c (free-key cells rows (λ m. T-not (has same l c) (T-false h) (has-of cells (subst (λ k. Mem c k) (tallied-keys (howMany t) l) m))))
 
-  none-stand : (c : Cell) → has same l c ≡ false → standing t c ≡ 0
+  none-stand : (c : Cell) → has same l c ≡ false → howMany t c ≡ 0
   none-stand c h =
-      let z : ltb 0 (standing t c) ≡ false = sym (stands-counted t c) ∙ agree c ∙ h in
-      omega (arith, nltb→le 0 (standing t c) (T-false z))
+      let z : ltb 0 (howMany t c) ≡ false = sym (stands-counted t c) ∙ agree c ∙ h in
+      omega (arith, nltb→le 0 (howMany t c) (T-false z))
 
   -- What a lookup in the rows finds is the number that stand there.
-  pub tallied-counted : (u : List (Cell × List ℕ)) (c : Cell) → u ≡ each idRow (tallied (standing t) l) → counted (get same u c) ≡ standing t c
+  pub tallied-counted : (u : List (Cell × List ℕ)) (c : Cell) → u ≡ each idRow (tallied (howMany t) l) → counted (get same u c) ≡ howMany t c
   tallied-counted u c e =
       ap (λ (v : List (Cell × List ℕ)). counted (get same v c)) e
       ∙ ap counted (get-each (λ (a : Cell) (k : ℕ). k ∷ []) same (λ a b q. cells .same-eq a b (T-true q)) rows c)
       ∙ found (has same l c) refl
     where
-      found : (b : Bool) → has same l c ≡ b → counted (under (λ (a : Cell) (k : ℕ). k ∷ []) c (get same rows c)) ≡ standing t c
+      found : (b : Bool) → has same l c ≡ b → counted (under (λ (a : Cell) (k : ℕ). k ∷ []) c (get same rows c)) ≡ howMany t c
       found true h = ap (λ (m : Option ℕ). counted (under (λ (a : Cell) (k : ℕ). k ∷ []) c m)) (look c true h)
       found false h = ap (λ (m : Option ℕ). counted (under (λ (a : Cell) (k : ℕ). k ∷ []) c m)) (look c false h) ∙ sym (none-stand c h)
 
@@ -167,15 +167,15 @@ module _ (touch : Cell → Cell → Bool) (o : Occupancy) (ok : Sound touch o) w
   -- The crowd is the tally of the entities.
   pub crowd-tally : crowdOf o ≡ tally (o .entities)
   unfolding crowdOf tally
-  crowd-tally = ap (tallied (standing (o .entities))) (ok .cells)
+  crowd-tally = ap (tallied (howMany (o .entities))) (ok .cells)
 
   -- The keys of the crowd are the occupied cells.
   pub crowd-keys : keys (crowdOf o) ≡ occupied o
   unfolding crowdOf
-  crowd-keys = tallied-keys (standing (o .entities)) (occupied o)
+  crowd-keys = tallied-keys (howMany (o .entities)) (occupied o)
 
   -- What a lookup in the crowd's rows finds is the number that stand there.
-  pub crowd-counted : (u : List (Cell × List ℕ)) (c : Cell) → u ≡ each idRow (crowdOf o) → counted (get same u c) ≡ standing (o .entities) c
+  pub crowd-counted : (u : List (Cell × List ℕ)) (c : Cell) → u ≡ each idRow (crowdOf o) → counted (get same u c) ≡ howMany (o .entities) c
   unfolding crowdOf
   crowd-counted u c e = tallied-counted (o .entities) (occupied o) (occupied-asc touch o ok) (occupied-stands touch o ok) u c e
 
@@ -184,11 +184,11 @@ module _ (touch : Cell → Cell → Bool) (o : Occupancy) (ok : Sound touch o) (
   t = o .entities
 
   -- The crowd after e, which stands nowhere, enters c.
-  pub crowd-enter : Free eqb (o .entities) e → crowdOf (enter touch e c o) ≡ put below c (suc (standing (o .entities) c)) (crowdOf o)
+  pub crowd-enter : Free eqb (o .entities) e → crowdOf (enter touch e c o) ≡ put below c (suc (howMany (o .entities) c)) (crowdOf o)
   unfolding crowdOf
   crowd-enter n =
-      ap (tallied (standing (put ltb e c t))) (occupied-enter touch o ok e c)
-      ∙ tallied-put (standing (put ltb e c t)) (standing t) c (occupied o) (occupied-asc touch o ok) (suc (standing t c))
+      ap (tallied (howMany (put ltb e c t))) (occupied-enter touch o ok e c)
+      ∙ tallied-put (howMany (put ltb e c t)) (howMany t) c (occupied o) (occupied-asc touch o ok) (suc (howMany t c))
       (standing-here t e c (key-free numbers t n)) (standing-there t e c (key-free numbers t n))
 
   module _ (p : At eqb (o .entities) e c) where
@@ -196,30 +196,30 @@ module _ (touch : Cell → Cell → Bool) (o : Occupancy) (ok : Sound touch o) (
     u = dropKey eqb e t
 
     -- The crowd after e leaves c, where others stand.
-    pub crowd-leave : (k : ℕ) → standing (o .entities) c ≡ suc (suc k) → crowdOf (leave touch e c o) ≡ put below c (suc k) (crowdOf o)
+    pub crowd-leave : (k : ℕ) → howMany (o .entities) c ≡ suc (suc k) → crowdOf (leave touch e c o) ≡ put below c (suc k) (crowdOf o)
     unfolding crowdOf
     crowd-leave k h =
-        let l : standing u c ≡ suc k = omega (arith, left-here t e c (ok .asc) p) in
-        let b : standsIn u c ≡ true = stands-counted u c ∙ true-of (ltb 0 (standing u c)) (lt→ltb 0 (standing u c) (omega arith)) in
-        ap (tallied (standing u)) (occupied-leave touch e c o ∙ cond-yes (standsIn u c) (occupied o) (without same c (occupied o)) (T-true b)
+        let l : howMany u c ≡ suc k = omega (arith, left-here t e c (ok .asc) p) in
+        let b : standsIn u c ≡ true = stands-counted u c ∙ true-of (ltb 0 (howMany u c)) (lt→ltb 0 (howMany u c) (omega arith)) in
+        ap (tallied (howMany u)) (occupied-leave touch e c o ∙ cond-yes (standsIn u c) (occupied o) (without same c (occupied o)) (T-true b)
         ∙ sym (add-old cells (occupied-asc touch o ok) (at-occupied touch o ok p)))
-        ∙ tallied-put (standing u) (standing t) c (occupied o) (occupied-asc touch o ok) (suc k) l (left-there t e c (ok .asc) p)
+        ∙ tallied-put (howMany u) (howMany t) c (occupied o) (occupied-asc touch o ok) (suc k) l (left-there t e c (ok .asc) p)
 
     -- The last leaves: nobody stands there.
-    pub last-leaves : standing (o .entities) c ≤ 1 → standsIn (dropKey eqb e (o .entities)) c ≡ false
+    pub last-leaves : howMany (o .entities) c ≤ 1 → standsIn (dropKey eqb e (o .entities)) c ≡ false
     last-leaves h =
-        let l : standing u c ≡ 0 = omega (arith, left-here t e c (ok .asc) p) in
-        stands-counted u c ∙ false-of (ltb 0 (standing u c)) (nltb-of 0 (standing u c) (omega arith))
+        let l : howMany u c ≡ 0 = omega (arith, left-here t e c (ok .asc) p) in
+        stands-counted u c ∙ false-of (ltb 0 (howMany u c)) (nltb-of 0 (howMany u c) (omega arith))
 
     -- Another stays: somebody stands there.
-    pub other-stays : 1 < standing (o .entities) c → standsIn (dropKey eqb e (o .entities)) c ≡ true
+    pub other-stays : 1 < howMany (o .entities) c → standsIn (dropKey eqb e (o .entities)) c ≡ true
     other-stays h =
-        let l : 0 < standing u c = omega (arith, left-here t e c (ok .asc) p) in
-        stands-counted u c ∙ true-of (ltb 0 (standing u c)) (lt→ltb 0 (standing u c) l)
+        let l : 0 < howMany u c = omega (arith, left-here t e c (ok .asc) p) in
+        stands-counted u c ∙ true-of (ltb 0 (howMany u c)) (lt→ltb 0 (howMany u c) l)
 
     -- The crowd after e leaves c, where no other stands.
-    pub crowd-close : standing (o .entities) c ≤ 1 → crowdOf (leave touch e c o) ≡ dropKey same c (crowdOf o)
+    pub crowd-close : howMany (o .entities) c ≤ 1 → crowdOf (leave touch e c o) ≡ dropKey same c (crowdOf o)
     unfolding crowdOf
     crowd-close h =
-        ap (tallied (standing u)) (occupied-leave touch e c o ∙ cond-no (standsIn u c) (occupied o) (without same c (occupied o)) (T-false (last-leaves h)))
-        ∙ tallied-drop (standing u) (standing t) c (occupied o) (left-there t e c (ok .asc) p)
+        ap (tallied (howMany u)) (occupied-leave touch e c o ∙ cond-no (standsIn u c) (occupied o) (without same c (occupied o)) (T-false (last-leaves h)))
+        ∙ tallied-drop (howMany u) (howMany t) c (occupied o) (left-there t e c (ok .asc) p)

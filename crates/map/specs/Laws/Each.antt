@@ -13,7 +13,7 @@ use Rattle.table.specs.Rows.{Kind, tableOf, imageOf, areWide, isTableOf}
 use Rattle.table.specs.Laws.Kinds.{Lawful}
 use Rattle.table.specs.Laws.Words.{table-length}
 use Rattle.table.specs.Laws.Images.{table-facts, image-is-table, table-of-image, image-of-table}
-use Rattle.map.specs.Told.{Shows}
+use Rattle.map.specs.Told.{TableIs}
 
 module _ {K U W : Type 0} (g : K → U → W) where
   -- The row for a row: the same key, and what g makes of key and value.
@@ -65,7 +65,7 @@ get-each {K} {U} {W} g eq sound (p ∷ t) k = go (eq k (p .0)) refl (get-each g 
 
 module _ {K : Type 0} (kind : Kind K) (laws : Lawful kind) (w n : ℕ) (s : List ℕ) (t : List (K × List ℕ)) where
   -- Words that are the image of a table show it.
-  pub image-shows : s ≡ imageOf kind (length s) t → n ≡ length t → kind .size ≤ w → areWide kind w t ≡ true → Asc (kind .less) (keys t) → Shows kind w n s t
+  pub image-shows : s ≡ imageOf kind (length s) t → n ≡ length t → kind .size ≤ w → areWide kind w t ≡ true → Asc (kind .less) (keys t) → TableIs kind w n s t
   image-shows e c h v a =
       record {
         table =
@@ -74,13 +74,13 @@ module _ {K : Type 0} (kind : Kind K) (laws : Lawful kind) (w n : ℕ) (s : List
       }
 
   -- Words that show a table are its image.
-  pub shows-image : Shows kind w n s t → s ≡ imageOf kind (length s) t
+  pub shows-image : TableIs kind w n s t → s ≡ imageOf kind (length s) t
   shows-image x = sym (image-of-table kind laws w n s (x .table)) ∙ ap (imageOf kind (length s)) (x .is)
 
   -- The count is the number of its rows.
-  pub shows-count : Shows kind w n s t → n ≡ length t
+  pub shows-count : TableIs kind w n s t → n ≡ length t
   shows-count x = sym (table-length kind w n s) ∙ ap length (x .is)
 
   -- The rows fit.
-  pub shows-fit : Shows kind w n s t → w * n ≤ length s
+  pub shows-fit : TableIs kind w n s t → w * n ≤ length s
   shows-fit x = table-facts kind w n s (x .table) .fits

@@ -16,13 +16,14 @@ use Rattle.model.specs.Laws.Members.{each-length}
 use Rattle.model.specs.Laws.Sorted.{Asc}
 use Rattle.model.specs.Laws.Slots.{joined, left, masked-add, masked-without}
 use Rattle.model.specs.Laws.Occupied.{occupied-asc, occupied-out}
+use Rattle.layout.specs.Widths.{cellWidth, netWidth}
 use Rattle.layout.specs.Rows.{neighbourOf, idRow, netRow, cellsImage, netImage}
 use Rattle.layout.specs.Laws.Rows.{ids-wide, nets-wide}
 use Rattle.table.specs.Rows.{cell, table4, stored4}
 use Rattle.table.specs.Laws.Kinds.{cell-lawful}
 use Rattle.table.specs.Laws.Next.{put-next, drop-next}
 use Rattle.map.specs.declared.Counts.{Counts}
-use Rattle.map.specs.Told.{Shows, told, noted}
+use Rattle.map.specs.Told.{TableIs, told, noted}
 use Rattle.map.specs.Held.{Placed, Stored}
 use Rattle.map.specs.Laws.Each.{keys-each, put-each, drop-each, image-shows, shows-image, shows-count, shows-fit}
 use Rattle.map.specs.Laws.Near.{noted-mask}
@@ -30,31 +31,31 @@ use Rattle.map.specs.Laws.Open.{masks-told, net-keys, net-left, net-join
 
 -- The words show the masks and both net lists.
 pub record Shown (cells occ emp : List ℕ) (n : Counts) (o : Occupancy) : Type 0 where
-  pub masks : Shows cell 5 (n .cells) cells (each idRow (o .masks))
-  pub opened : Shows cell 4 (n .occupied) occ (each netRow (o .newlyOccupied))
-  pub emptied : Shows cell 4 (n .emptied) emp (each netRow (o .newlyEmptied))
+  pub masks : TableIs cell cellWidth (n .cells) cells (each idRow (o .masks))
+  pub opened : TableIs cell netWidth (n .occupied) occ (each netRow (o .newlyOccupied))
+  pub emptied : TableIs cell netWidth (n .emptied) emp (each netRow (o .newlyEmptied))
 
 -- Words that show them are their words.
 pub shown-stored : (cells occ emp : List ℕ) (n : Counts) (o : Occupancy) → Shown cells occ emp n o → Stored cells occ emp n o
 unfolding cellsImage netImage
 shown-stored cells occ emp n o x =
     record {
-      masks = shows-image cell cell-lawful 5 (n .cells) cells (each idRow (o .masks)) (x .masks);
-      opened = shows-image cell cell-lawful 4 (n .occupied) occ (each netRow (o .newlyOccupied)) (x .opened);
-      emptied = shows-image cell cell-lawful 4 (n .emptied) emp (each netRow (o .newlyEmptied)) (x .emptied);
-      cells-count = shows-count cell cell-lawful 5 (n .cells) cells (each idRow (o .masks)) (x .masks) ∙ each-length idRow (o .masks);
-      occupied-count = shows-count cell cell-lawful 4 (n .occupied) occ (each netRow (o .newlyOccupied)) (x .opened) ∙ each-length netRow (o .newlyOccupied);
-      emptied-count = shows-count cell cell-lawful 4 (n .emptied) emp (each netRow (o .newlyEmptied)) (x .emptied) ∙ each-length netRow (o .newlyEmptied);
-      cells-fit = shows-fit cell cell-lawful 5 (n .cells) cells (each idRow (o .masks)) (x .masks);
-      occupied-fit = shows-fit cell cell-lawful 4 (n .occupied) occ (each netRow (o .newlyOccupied)) (x .opened);
-      emptied-fit = shows-fit cell cell-lawful 4 (n .emptied) emp (each netRow (o .newlyEmptied)) (x .emptied);
+      masks = shows-image cell cell-lawful cellWidth (n .cells) cells (each idRow (o .masks)) (x .masks);
+      opened = shows-image cell cell-lawful netWidth (n .occupied) occ (each netRow (o .newlyOccupied)) (x .opened);
+      emptied = shows-image cell cell-lawful netWidth (n .emptied) emp (each netRow (o .newlyEmptied)) (x .emptied);
+      cells-count = shows-count cell cell-lawful cellWidth (n .cells) cells (each idRow (o .masks)) (x .masks) ∙ each-length idRow (o .masks);
+      occupied-count = shows-count cell cell-lawful netWidth (n .occupied) occ (each netRow (o .newlyOccupied)) (x .opened) ∙ each-length netRow (o .newlyOccupied);
+      emptied-count = shows-count cell cell-lawful netWidth (n .emptied) emp (each netRow (o .newlyEmptied)) (x .emptied) ∙ each-length netRow (o .newlyEmptied);
+      cells-fit = shows-fit cell cell-lawful cellWidth (n .cells) cells (each idRow (o .masks)) (x .masks);
+      occupied-fit = shows-fit cell cell-lawful netWidth (n .occupied) occ (each netRow (o .newlyOccupied)) (x .opened);
+      emptied-fit = shows-fit cell cell-lawful netWidth (n .emptied) emp (each netRow (o .newlyEmptied)) (x .emptied);
     }
 
 -- The words of a net list show it.
-net-shows : (s : List ℕ) (n : ℕ) (l : List Cell) → s ≡ netImage (length s) l → n ≡ length l → Asc below l → Shows cell 4 n s (each netRow l)
+net-shows : (s : List ℕ) (n : ℕ) (l : List Cell) → s ≡ netImage (length s) l → n ≡ length l → Asc below l → TableIs cell netWidth n s (each netRow l)
 unfolding netImage
 net-shows s n l e c a =
-    image-shows cell cell-lawful 4 n s (each netRow l) e (c ∙ sym (each-length netRow l)) (omega arith) (nets-wide l) (subst (Asc below) (sym (net-keys l)) a)
+    image-shows cell cell-lawful netWidth n s (each netRow l) e (c ∙ sym (each-length netRow l)) (omega arith) (nets-wide l) (subst (Asc below) (sym (net-keys l)) a)
 
 module _ (o : Occupancy) (ok : Placed o) where
   -- An occupied cell is in range, so its block has room.
@@ -65,10 +66,10 @@ module _ (o : Occupancy) (ok : Placed o) where
   pub placed-asc : Asc below (occupied o)
   placed-asc = occupied-asc touch26 o (ok .sound)
 
-  masks-shows : (s : List ℕ) (n : ℕ) → s ≡ cellsImage (length s) (o .masks) → n ≡ length (o .masks) → Shows cell 5 n s (each idRow (o .masks))
+  masks-shows : (s : List ℕ) (n : ℕ) → s ≡ cellsImage (length s) (o .masks) → n ≡ length (o .masks) → TableIs cell cellWidth n s (each idRow (o .masks))
   unfolding cellsImage
   masks-shows s n e c =
-      image-shows cell cell-lawful 5 n s (each idRow (o .masks)) e (c ∙ sym (each-length idRow (o .masks))) (omega arith)
+      image-shows cell cell-lawful cellWidth n s (each idRow (o .masks)) e (c ∙ sym (each-length idRow (o .masks))) (omega arith)
       (ids-wide (o .masks))
       (subst (Asc below) (sym (keys-each (λ d m. m ∷ []) (o .masks))) placed-asc)
 
@@ -81,19 +82,19 @@ module _ (o : Occupancy) (ok : Placed o) where
         emptied = net-shows emp (n .emptied) (o .newlyEmptied) (x .emptied) (x .emptied-count) (ok .emptied-asc);
       }
 
-  module _ (c : Cell) (m : ℕ) (cells : List ℕ) (x : Shows cell 5 m cells (each idRow (o .masks))) where
+  module _ (c : Cell) (m : ℕ) (cells : List ℕ) (x : TableIs cell cellWidth m cells (each idRow (o .masks))) where
     -- The table of masks after c opens.
     pub open-masks : hasRoom 1 c ≡ true → (told-cells after : List ℕ) (len k w : ℕ)
-        → w ≡ noted (keys (table4 5 m cells)) (neighbourOf c) 26
-        → Shows cell 5 m told-cells (change (told true (neighbourOf c) 26) (table4 5 m cells))
-        → (k, after) ≡ stored4 len (put below c (w ∷ []) (table4 5 m told-cells))
-        → Shows cell 5 k after (each idRow (openCell touch26 c o .masks))
+        → w ≡ noted (keys (table4 cellWidth m cells)) (neighbourOf c) 26
+        → TableIs cell cellWidth m told-cells (change (told true (neighbourOf c) 26) (table4 cellWidth m cells))
+        → (k, after) ≡ stored4 len (put below c (w ∷ []) (table4 cellWidth m told-cells))
+        → TableIs cell cellWidth k after (each idRow (openCell touch26 c o .masks))
     open-masks room told-cells after len k w e y q =
         let v : ℕ = maskOf touch26 (occupied o) c in
         let f : w ≡ v = e ∙ ap (λ (l : List Cell). noted l (neighbourOf c) 26) (ap keys (x .is) ∙ keys-each (λ d n. n ∷ []) (o .masks)) ∙ noted-mask c room (occupied o) in
-        let g : change (told true (neighbourOf c) 26) (table4 5 m cells) ≡ each idRow (change (joined all26 c) (o .masks)) =
+        let g : change (told true (neighbourOf c) 26) (table4 cellWidth m cells) ≡ each idRow (change (joined all26 c) (o .masks)) =
         ap (change (told true (neighbourOf c) 26)) (x .is) ∙ masks-told true c room (o .masks) in
-        let nx = put-next cell 5 cell-lawful m told-cells (y .table) len k after c (w ∷ []) refl q in
+        let nx = put-next cell cellWidth cell-lawful m told-cells (y .table) len k after c (w ∷ []) refl q in
         record {
           table = nx .0;
           is = nx .1
@@ -103,15 +104,15 @@ module _ (o : Occupancy) (ok : Placed o) where
         }
 
     -- The table of masks after the row of c went out.
-    pub drop-masks : (gone : List ℕ) (len k : ℕ) → (k, gone) ≡ stored4 len (dropKey same c (table4 5 m cells)) → Shows cell 5 k gone (each idRow (dropKey same c (o .masks)))
+    pub drop-masks : (gone : List ℕ) (len k : ℕ) → (k, gone) ≡ stored4 len (dropKey same c (table4 cellWidth m cells)) → TableIs cell cellWidth k gone (each idRow (dropKey same c (o .masks)))
     drop-masks gone len k q =
-        let nx = drop-next cell 5 cell-lawful m cells (x .table) len k gone c q in
+        let nx = drop-next cell cellWidth cell-lawful m cells (x .table) len k gone c q in
         record { table = nx .0; is = nx .1 ∙ ap (dropKey same c) (x .is) ∙ drop-each (λ d n. n ∷ []) same c (o .masks) }
 
     -- The table of masks after c closes.
-    pub close-masks : hasRoom 1 c ≡ true → (gone after : List ℕ) (len k : ℕ) → (k, gone) ≡ stored4 len (dropKey same c (table4 5 m cells))
-        → Shows cell 5 k after (change (told false (neighbourOf c) 26) (table4 5 k gone))
-        → Shows cell 5 k after (each idRow (closeCell touch26 c o .masks))
+    pub close-masks : hasRoom 1 c ≡ true → (gone after : List ℕ) (len k : ℕ) → (k, gone) ≡ stored4 len (dropKey same c (table4 cellWidth m cells))
+        → TableIs cell cellWidth k after (change (told false (neighbourOf c) 26) (table4 cellWidth k gone))
+        → TableIs cell cellWidth k after (each idRow (closeCell touch26 c o .masks))
     close-masks room gone after len k q y =
         record {
           table = y .table;
@@ -121,11 +122,11 @@ module _ (o : Occupancy) (ok : Placed o) where
         }
 
 -- Both net lists after a cell leaves the one or joins the other.
-pub nets-crossed : (c : Cell) (from to : List Cell) (n m : ℕ) (s t : List ℕ) → Shows cell 4 n s (each netRow from) → Shows cell 4 m t (each netRow to)
+pub nets-crossed : (c : Cell) (from to : List Cell) (n m : ℕ) (s t : List ℕ) → TableIs cell netWidth n s (each netRow from) → TableIs cell netWidth m t (each netRow to)
     → (r j : ℕ) (s′ t′ : List ℕ)
-    → (Shows cell 4 r s′ (dropKey same c (table4 4 n s))) × (Shows cell 4 j t′ (cond (has same (keys (table4 4 n s)) c) (table4 4 m t) (put below c [] (table4 4 m t))))
-    → (Shows cell 4 r s′ (each netRow (without same c from))) × (Shows cell 4 j t′ (each netRow (cond (has same from c) to (add below c to))))
+    → (TableIs cell netWidth r s′ (dropKey same c (table4 netWidth n s))) × (TableIs cell netWidth j t′ (cond (has same (keys (table4 netWidth n s)) c) (table4 netWidth m t) (put below c [] (table4 netWidth m t))))
+    → (TableIs cell netWidth r s′ (each netRow (without same c from))) × (TableIs cell netWidth j t′ (each netRow (cond (has same from c) to (add below c to))))
 nets-crossed c from to n m s t x y r j s′ t′ z = (
-  record { table = z .0 .table; is = z .0 .is ∙ net-left c from to (table4 4 n s) (x .is) },
-  record { table = z .1 .table; is = z .1 .is ∙ net-joined c from to (table4 4 n s) (table4 4 m t) (x .is) (y .is) },
+  record { table = z .0 .table; is = z .0 .is ∙ net-left c from to (table4 netWidth n s) (x .is) },
+  record { table = z .1 .table; is = z .1 .is ∙ net-joined c from to (table4 netWidth n s) (table4 netWidth m t) (x .is) (y .is) },
 )

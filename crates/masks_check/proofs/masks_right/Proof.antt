@@ -5,8 +5,9 @@ use lib.ListN.{length, drop, getD}
 use Rattle.model.specs.Lists.{all, keys}
 use Rattle.table.specs.Rows.{cell, cellAt, table4}
 use Rattle.table.specs.Laws.Images.{table-facts}
+use Rattle.layout.specs.Widths.{cellWidth}
 use Rattle.layout.specs.Rows.{cellsIn}
-use Rattle.scans.specs.Laws.Scans.{all-no, all-next, all-end}
+use Rattle.points_check.specs.Laws.Lines.{all-no, all-next, all-end}
 use Rattle.masks_check.specs.Rows.{rowRight}
 use Rattle.masks_check.specs.Laws.{mask-lines, row-yes, row-no}
 use borrow.Author.Needs.{needs}
@@ -14,13 +15,13 @@ use Rattle.masks_check.proofs.masks_right.Statement.{statement}
 use Rattle.masks_check.proofs.masks_right.Tie as tie
 
 abbrev Inv-loop : tie.InvT-loop
-Inv-loop cells m i₀ i = (5 * m ≤ length cells) × (all (rowRight (keys (table4 5 m cells))) (cellsIn m cells) ≡ all (rowRight (keys (table4 5 m cells))) (drop i (cellsIn m cells)))
+Inv-loop cells m i₀ i = (cellWidth * m ≤ length cells) × (all (rowRight (keys (table4 cellWidth m cells))) (cellsIn m cells) ≡ all (rowRight (keys (table4 cellWidth m cells))) (drop i (cellsIn m cells)))
 
 abbrev μ-loop : tie.MeasureT-loop
 μ-loop cells m i₀ i = m - i
 
 loop-holds : tie.Need-loop-holds Inv-loop μ-loop
-loop-holds c = (table-facts cell 5 (c .before .args .m) (c .before .args .cells .now) (c .before .pre) .fits, refl)
+loop-holds c = (table-facts cell cellWidth (c .before .args .m) (c .before .args .cells .now) (c .before .pre) .fits, refl)
 
 mul-cell-at : tie.Need-mul-cell-at Inv-loop μ-loop
 mul-cell-at c = search needs
@@ -44,7 +45,7 @@ mask-of-requires : tie.Need-mask-of-requires Inv-loop μ-loop
 mask-of-requires c κs = c .before .before .before .before .before .pre
 
 returns : tie.Need-returns Inv-loop μ-loop
-returns c = let s = c .before .before .before .before .before .before .before in let l = c .before .before .before .before .before .loop in sym (l .inv .1 ∙ all-no (mask-lines (s .args .m) (s .args .cells .now)) (rowRight (keys (table4 5 (s .args .m) (s .args .cells .now)))) (l .i) (c .before .before .before .before .loop-test .taken) (row-no (keys (table4 5 (s .args .m) (s .args .cells .now))) (c .before .before .before .cell-at .result) (cellAt (s .args .cells .now) (5 * l .i)) (getD (s .args .cells .now) (5 * l .i + 4) 0) (c .before .mask-of .result) (c .before .before .before .cell-at .ensures) (c .before .mask-of .ensures) (c .if1 .taken)))
+returns c = let s = c .before .before .before .before .before .before .before in let l = c .before .before .before .before .before .loop in sym (l .inv .1 ∙ all-no (mask-lines (s .args .m) (s .args .cells .now)) (rowRight (keys (table4 cellWidth (s .args .m) (s .args .cells .now)))) (l .i) (c .before .before .before .before .loop-test .taken) (row-no (keys (table4 cellWidth (s .args .m) (s .args .cells .now))) (c .before .before .before .cell-at .result) (cellAt (s .args .cells .now) (cellWidth * l .i)) (getD (s .args .cells .now) (cellWidth * l .i + 4) 0) (c .before .mask-of .result) (c .before .before .before .cell-at .ensures) (c .before .mask-of .ensures) (c .if1 .taken)))
 
 add-i : tie.Need-add-i Inv-loop μ-loop
 add-i c = search needs
@@ -53,10 +54,10 @@ loop-less : tie.Need-loop-less Inv-loop μ-loop
 loop-less c = search needs
 
 loop-again : tie.Need-loop-again Inv-loop μ-loop
-loop-again c = let s = c .before .before .before .before .before .before .before in let l = c .before .before .before .before .before .loop in (l .inv .0, l .inv .1 ∙ all-next (mask-lines (s .args .m) (s .args .cells .now)) (rowRight (keys (table4 5 (s .args .m) (s .args .cells .now)))) (l .i) (c .before .before .before .before .loop-test .taken) (row-yes (keys (table4 5 (s .args .m) (s .args .cells .now))) (c .before .before .before .cell-at .result) (cellAt (s .args .cells .now) (5 * l .i)) (getD (s .args .cells .now) (5 * l .i + 4) 0) (c .before .mask-of .result) (c .before .before .before .cell-at .ensures) (c .before .mask-of .ensures) (c .if1 .left)))
+loop-again c = let s = c .before .before .before .before .before .before .before in let l = c .before .before .before .before .before .loop in (l .inv .0, l .inv .1 ∙ all-next (mask-lines (s .args .m) (s .args .cells .now)) (rowRight (keys (table4 cellWidth (s .args .m) (s .args .cells .now)))) (l .i) (c .before .before .before .before .loop-test .taken) (row-yes (keys (table4 cellWidth (s .args .m) (s .args .cells .now))) (c .before .before .before .cell-at .result) (cellAt (s .args .cells .now) (cellWidth * l .i)) (getD (s .args .cells .now) (cellWidth * l .i + 4) 0) (c .before .mask-of .result) (c .before .before .before .cell-at .ensures) (c .before .mask-of .ensures) (c .if1 .left)))
 
 returns-2 : tie.Need-returns-2 Inv-loop μ-loop
-returns-2 c = let s = c .before .before .before in let l = c .before .loop in sym (l .inv .1 ∙ all-end (mask-lines (s .args .m) (s .args .cells .now)) (rowRight (keys (table4 5 (s .args .m) (s .args .cells .now)))) (l .i) (c .loop-test .left))
+returns-2 c = let s = c .before .before .before in let l = c .before .loop in sym (l .inv .1 ∙ all-end (mask-lines (s .args .m) (s .args .cells .now)) (rowRight (keys (table4 cellWidth (s .args .m) (s .args .cells .now)))) (l .i) (c .loop-test .left))
 
 pub masks-right-spec : {M : Type 1} → statement M
 masks-right-spec =

@@ -9,13 +9,14 @@ use Rattle.model.specs.Cells.{touch26}
 use Rattle.model.specs.Masks.{withBit, maskOf}
 use Rattle.model.specs.Places.{slot}
 use Rattle.table.specs.Rows.{table4}
+use Rattle.layout.specs.Widths.{cellWidth}
 use Rattle.masks_check.specs.Laws.{scan-none, scan-yes, scan-no, scan-end}
 use borrow.Author.Needs.{needs}
 use Rattle.masks_check.proofs.scanned.Statement.{statement}
 use Rattle.masks_check.proofs.scanned.Tie as tie
 
 abbrev Inv-loop : tie.InvT-loop
-Inv-loop cells m c bits₀ i₀ bits i = (i ≤ m) × (bits ≡ maskOf touch26 (take i (keys (table4 5 m cells))) c)
+Inv-loop cells m c bits₀ i₀ bits i = (i ≤ m) × (bits ≡ maskOf touch26 (take i (keys (table4 cellWidth m cells))) c)
 
 abbrev μ-loop : tie.MeasureT-loop
 μ-loop cells m c bits₀ i₀ bits i = m - i

@@ -21,8 +21,8 @@ one-answer f r entity grid a b p q = p ∙ sym q
 
 -- ---- the numbers
 module _ (f : Frame) (entity grid : ℕ) where
-  pub answer-told : (r : Report) → Exactly (numberOf (answer f r entity grid)) (frameOk f) (reportOk f r)
-  answer-told r = subst (λ (n : ℕ). Exactly n (frameOk f) (reportOk f r)) (sym (answer-number f entity grid r)) (go (frameOk f) (reportOk f r))
+  pub answer-exactly : (r : Report) → Exactly (numberOf (answer f r entity grid)) (frameOk f) (reportOk f r)
+  answer-exactly r = subst (λ (n : ℕ). Exactly n (frameOk f) (reportOk f r)) (sym (answer-number f entity grid r)) (go (frameOk f) (reportOk f r))
     where
       go : (s t : Bool) → Exactly (cond s (cond t 0 10) 11) s t
       go false t = record { eleven = refl; ten = refl; done = refl }

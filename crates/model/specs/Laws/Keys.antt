@@ -113,18 +113,6 @@ module _ (touch : Cell → Cell → Bool) where
   pub rule1-asc : (s : Groups) (c : Cell) → Asc below (keys (s .ids)) → Asc below (keys (rule1 touch s c .ids))
   rule1-asc s c asc = subst (Asc below) (sym (keys-rule1 s c)) (add-asc cells c (keys (s .ids)) asc)
 
-  -- They are ascending after rule 2.
-  pub rule2-asc : (emptied : List Cell) (s : Groups) → Asc below (keys (s .ids)) → Asc below (keys (rule2 touch emptied s .ids))
-  rule2-asc emptied s asc = subst (Asc below) (sym (keys-rule2 emptied s)) (keep-asc _ (keys (s .ids)) asc)
-
-  -- They are ascending after a piece takes the next id.
-  pub take-asc : (s : Groups) (p : List Cell) → Asc below (keys (s .ids)) → Asc below (keys (takeNext touch s p .ids))
-  take-asc s p asc = subst (Asc below) (sym (keys-take s p)) asc
-
-  -- They are ascending after a split.
-  pub split-asc : (s : Groups) (g : ℕ) → Asc below (keys (s .ids)) → Asc below (keys (split touch s g .ids))
-  split-asc s g asc = subst (Asc below) (sym (keys-split s g)) asc
-
   -- They are ascending after a regrouping.
   pub regroup-asc : (occupied emptied : List Cell) (s : Groups) → Asc below (keys (s .ids)) → Asc below (keys (regroup touch occupied emptied s .ids))
   regroup-asc occupied emptied s asc = subst (Asc below) (sym (keys-regroup occupied emptied s)) (keep-asc _ _ (addAll-asc occupied (keys (s .ids)) asc))

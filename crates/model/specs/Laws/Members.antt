@@ -86,14 +86,6 @@ module _ {A : Type 0} (p : A → Bool) where
       ⊎-elim (λ u. (x, head refl, u))
       (λ u. let r : (a : A) × Mem a xs × T (p a) = any-out xs u in (r .0, tail (r .1), r .2)) (or-cases (p x) _ t)
 
-  -- If no member passes, not some member passes.
-  pub none-in : (l : List A) → ((a : A) → Mem a l → T (not (p a))) → T (not (any p l))
-  none-in l f = not-T (any p l) (λ t. let r : (a : A) × Mem a l × T (p a) = any-out l t in T-not (p (r .0)) (f (r .0) (r .1)) (r .2))
-
-  -- If not some member passes, each member fails.
-  pub none-out : {a : A} (l : List A) → T (not (any p l)) → Mem a l → T (not (p a))
-  none-out {a} l t m = not-T (p a) (λ u. T-not (any p l) t (any-in m u))
-
   -- If each member passes, all pass.
   pub all-in : (l : List A) → ((a : A) → Mem a l → T (p a)) → T (all p l)
   all-in [] f = tt
@@ -126,16 +118,6 @@ module _ {A : Type 0} (p q : A → Bool) where
       go : (b : Bool) → keep p (keep q xs) ≡ keep (λ a. q a && p a) xs → keep p (cond b (x ∷ keep q xs) (keep q xs)) ≡ cond (b && p x) (x ∷ keep (λ a. q a && p a) xs) (keep (λ a. q a && p a) xs)
       go true e = ap (λ l. cond (p x) (x ∷ l) l) e
       go false e = e
-
-  -- Two tests that agree on all members both find one, or neither.
-  pub any-ext : (l : List A) → ((a : A) → Mem a l → p a ≡ q a) → any p l ≡ any q l
-  any-ext [] f = refl
-  any-ext (x ∷ xs) f = rw (f x (head refl), any-ext xs (λ a m. f a (tail m)))
-
-  -- Two tests that agree on all members pass all, or neither does.
-  pub all-ext : (l : List A) → ((a : A) → Mem a l → p a ≡ q a) → all p l ≡ all q l
-  all-ext [] f = refl
-  all-ext (x ∷ xs) f = rw (f x (head refl), all-ext xs (λ a m. f a (tail m)))
 
 -- A conjunction in the other order.
 and-swap : (a b : Bool) → (a && b) ≡ (b && a)
@@ -196,11 +178,6 @@ each-same f [] h = refl
 each-same f (x ∷ l) h = let e : f x ≡ x = h x (head refl) in let r : each f l ≡ l = each-same f l (λ a m. h a (tail m)) in λ i. e i ∷ r i
 
 module _ {A B : Type 0} (f : A → List B) where
-  -- What f gives for a member is there.
-  pub gather-in : {a : A} {b : B} {l : List A} → Mem a l → Mem b (f a) → Mem b (gather f l)
-  gather-in {a} {b} (head {x} {xs} e) k = append-left (gather f xs) (subst (λ y. Mem b (f y)) e k)
-  gather-in (tail {x} m) k = append-right (f x) (gather-in m k)
-
   -- What is there is given by f for a member.
   pub gather-out : {b : B} (l : List A) → Mem b (gather f l) → (a : A) × Mem a l × Mem b (f a)
   gather-out [] m = absurd (mem-nil m)
@@ -353,13 +330,3 @@ module _ {K : Type 0} {eq lt : K → K → Bool} (laws : Ordered eq lt) where
       ⊎-elim (λ e. ap (λ k. suc (length k)) (keep-no (λ b. not (eq x b)) a l (not-T (not (eq x a)) (λ t. differs laws x a t e)) ∙ without-none x l (λ k. n (mem-cast (sym e) k))))
       (λ k. ap (λ j. suc (length j)) (keep-yes (λ b. not (eq x b)) a l (differ laws (λ e. n (mem-cast (sym e) k)))) ∙ ap suc (without-length o k)) (mem-cons m)
   without-length once-nil m = absurd (mem-nil m)
-
-  -- A list that passes the test has no member twice.
-  pub distinct-out : (l : List K) → T (distinct eq l) → Once l
-  distinct-out [] t = once-nil
-  distinct-out (x ∷ l) t = once-cons (of-hasnt l (and-fst (not (has eq l x)) _ t)) (distinct-out l (and-snd (not (has eq l x)) _ t))
-
-  -- A list with no member twice passes the test.
-  pub distinct-in : {l : List K} → Once l → T (distinct eq l)
-  distinct-in once-nil = tt
-  distinct-in (once-cons {a} {l} n o) = and-both (not (has eq l a)) _ (hasnt-of a l n) (distinct-in o)

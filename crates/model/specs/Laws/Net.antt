@@ -215,12 +215,3 @@ module _ (touch : Cell → Cell → Bool) (R : Cell → Bool) where
   trace-in o (ev ∷ es) f p m =
       ⊎-elim (λ k. passages-in R (o .entities) ev (f ev (head refl)) p k) (λ k. trace-in (play touch o ev) es (λ v j. f v (tail j)) p k)
       (append-cases (passages (o .entities) ev) m)
-
--- Two sound occupancies with the same entities and net lists since the same cells are equal.
-pub by-entities : (touch : Cell → Cell → Bool) (was : List Cell) (o p : Occupancy) → Sound touch o → Sound touch p → Net was o → Net was p → o .entities ≡ p .entities → o ≡ p
-by-entities touch was o p ok ok′ net net′ e =
-    let c : occupied o ≡ occupied p = ok .cells ∙ ap (λ (t : List (ℕ × Cell)). ascending below (values t)) e ∙ sym (ok′ .cells) in
-    let m : o .masks ≡ p .masks = ok .exact ∙ ap (masked touch) c ∙ sym (ok′ .exact) in
-    let f : o .newlyOccupied ≡ p .newlyOccupied = net .opened ∙ ap (λ l. minus same l was) c ∙ sym (net′ .opened) in
-    let g : o .newlyEmptied ≡ p .newlyEmptied = net .emptied ∙ ap (minus same was) c ∙ sym (net′ .emptied) in
-    λ i. record { entities = e i; masks = m i; newlyOccupied = f i; newlyEmptied = g i }

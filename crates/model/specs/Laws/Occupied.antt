@@ -230,10 +230,6 @@ module _ (touch : Cell → Cell → Bool) where
   pub plays-sound : (o : Occupancy) (es : List Event) → Sound touch o → Sound touch (run (play touch) o es)
   plays-sound o es ok = events-keep (Sound touch) (λ p. Unit {0}) (λ o′ p x h q. pass-sound o′ p x h) o es (λ p m. tt) ok
 
-  -- Soundness stays with an event.
-  pub play-sound : (o : Occupancy) (ev : Event) → Sound touch o → Sound touch (play touch o ev)
-  play-sound o ev ok = plays-sound o (ev ∷ []) ok
-
   -- Soundness stays with a batch.
   pub batch-sound : (b : Batch) (o : Occupancy) → Sound touch o → Sound touch (playBatch touch b o)
   batch-sound b o ok = plays-sound (startBatch o) (events b) (start-sound o ok)

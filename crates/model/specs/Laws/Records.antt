@@ -79,10 +79,6 @@ module _ (ids : Ids) where
       ∙ sym (ap shownOf (members-none (λ m. n (ascending-in numbers (values ids) m)))))
       (mem-or numbers g (ascending ltb (values ids)))
 
-  -- Under an id that no cell has stands nothing.
-  pub records-none : (g : ℕ) → (Mem g (values ids) → ⊥) → get eqb (records ids) g ≡ none
-  records-none g n = records-get g ∙ ap shownOf (members-none n)
-
   -- The ids of the records are those that a cell has, ascending.
   pub records-keys : keys (records ids) ≡ ascending ltb (values ids)
   records-keys = listed (members ids) (ascending ltb (values ids)) (λ h m. members-some (ascending-out numbers (values ids) m))

@@ -91,8 +91,3 @@ module _ (touch : Cell → Cell → Bool) where
             ⊎-elim (λ k. inr (key-at cells (s .groups .ids) (subst (λ l. Mem a l) (sym (ok .idCells)) k)))
             (λ n. inl (subst (λ l. Mem a l) (sym (net .opened)) (minus-in cells (occupied (s .occupancy)) m n)))
             (mem-or cells a (occupied (s .occupancy)))
-
-  -- Every state that a history leads to.
-  pub reached-steady : Touching touch → {s : State} → Reached touch s → Steady touch s
-  reached-steady laws (start first) = fresh-steady first
-  reached-steady laws (next {s} b r e) = subst (Steady touch) (sym (update-accepted touch s b e .1)) (accepted-steady laws s (reached-steady laws r) b)

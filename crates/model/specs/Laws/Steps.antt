@@ -136,29 +136,6 @@ module _ (touch : Cell → Cell → Bool) (occupied : List Cell) (b : Cell) wher
     pub steps : Mem a (stepsFrom touch occupied b n)
     pub fewer : (k : ℕ) → Mem a (stepsFrom touch occupied b k) → n ≤ k
 
-  -- b itself is no step away, and no other cell is.
-  pub away-self : Mem b occupied → StepsAway 0 b
-  away-self m = record { steps = keep-in (same b) m (cells .same-self b); fewer = λ k j. omega arith }
-
-  -- A cell that n and one more steps lead from goes on to cells that are n steps away.
-  pub away-onward : (n : ℕ) {a c : Cell} → StepsAway (suc n) a → T (touch a c) → Mem c (stepsFrom touch occupied b n) → StepsAway n c
-  away-onward n w t m = record { steps = m; fewer = λ k j. omega (arith, w .fewer (suc k) (steps-more k (steps-occupied (suc n) (w .steps)) t j)) }
-
-  -- One of them touches it.
-  pub away-less : (n : ℕ) {a : Cell} → StepsAway (suc n) a → (c : Cell) × StepsAway n c × T (touch a c)
-  away-less n w = let r = steps-less n (w .steps) in (r .0, away-onward n w (r .2) (r .1), r .2)
-
-  -- A cell that touches one n steps away, and that no n or fewer steps lead from, is one step more away.
-  pub away-more : (n : ℕ) {a c : Cell} → Mem a occupied → T (touch a c) → StepsAway n c → ((k : ℕ) → k ≤ n → Mem a (stepsFrom touch occupied b k) → ⊥) → StepsAway (suc n) a
-  away-more n d t w f = record { steps = steps-more n d t (w .steps); fewer = λ k m. ⊎-elim (λ u. absurd (f k (leb→le k n u) m)) (λ u. nleb→lt k n u) (decided (leb k n)) }
-
-  -- The cells that the walk chooses among are the touching cells that are as many steps away as are left.
-  pub away-choice : (n : ℕ) {a c : Cell} → StepsAway (suc n) a → Mem c (keep (touch a) (stepsFrom touch occupied b n)) ↔ (Mem c occupied × T (touch a c) × StepsAway n c)
-  away-choice n {a} w = (
-    λ m. let r = keep-out (touch a) (stepsFrom touch occupied b n) m in (steps-occupied n (r .0), r .1, away-onward n w (r .1) (r .0)),
-    λ r. keep-in (touch a) (r .2 .steps) (r .1),
-  )
-
   -- The first number of steps is how many steps a cell is away.
   pub away-number : {a : Cell} {n : ℕ} {ns : List ℕ} → stepNumbers touch occupied b a ≡ n ∷ ns → StepsAway n a
   away-number {a} e = let r = first-number a e in record { steps = r .1; fewer = r .2 }

@@ -266,10 +266,6 @@ module _ {K W : Type 0} {eq lt : K → K → Bool} (laws : Ordered eq lt) where
   pub get-drop-other : (t : List (K × W)) (c a : K) → (a ≡ c → ⊥) → get eq (dropKey eq c t) a ≡ get eq t a
   get-drop-other t c a n = get-only-yes (λ b. not (eq c b)) t a (differ laws (λ e. n (sym e)))
 
-  -- Under another key than the one left out stands what stood there.
-  pub at-drop : (c : K) {a : K} {v : W} (t : List (K × W)) → (a ≡ c → ⊥) → At eq t a v → At eq (dropKey eq c t) a v
-  at-drop c t n d = at-only (λ b. not (eq c b)) t d (differ laws (λ e. n (sym e)))
-
   -- What stands after a key is left out stood there, under another key.
   pub at-of-drop : (c : K) {a : K} {v : W} (t : List (K × W)) → At eq (dropKey eq c t) a v → At eq t a v × (a ≡ c → ⊥)
   at-of-drop c {a} {v} t d = let r : At eq t a v × T (not (eq c a)) = at-of-only (λ b. not (eq c b)) t d in (r .0, λ e. differs laws c a (r .1) (sym e))
@@ -404,13 +400,6 @@ module _ {K W : Type 0} {eq lt : K → K → Bool} (laws : Ordered eq lt) where
   put-old t c v s d =
       table-same laws (put lt c v t) t (put-asc laws t c v s) s
       (λ a. ⊎-elim (λ e. ap (λ b. get eq (put lt c v t) b) e ∙ get-put-self laws t c v ∙ sym (d .is) ∙ ap (λ b. get eq t b) (sym e)) (λ n. get-put-other laws t c v a n) (is-or laws a c))
-
-  -- The later of two values under one key stands.
-  pub put-put : (t : List (K × W)) (c : K) (v w : W) → Asc lt (keys t) → put lt c v (put lt c w t) ≡ put lt c v t
-  put-put t c v w s =
-      table-same laws (put lt c v (put lt c w t)) (put lt c v t) (put-asc laws (put lt c w t) c v (put-asc laws t c w s)) (put-asc laws t c v s)
-      (λ a. ⊎-elim (λ e. ap (λ b. get eq (put lt c v (put lt c w t)) b) e ∙ get-put-self laws (put lt c w t) c v ∙ sym (get-put-self laws t c v) ∙ ap (λ b. get eq (put lt c v t) b) (sym e))
-      (λ n. get-put-other laws (put lt c w t) c v a n ∙ get-put-other laws t c w a n ∙ sym (get-put-other laws t c v a n)) (is-or laws a c))
 
   -- A value under a free key makes one row more.
   pub put-length-new : (t : List (K × W)) (c : K) (v : W) → Free eq t c → length (put lt c v t) ≡ suc (length t)

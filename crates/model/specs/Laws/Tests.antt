@@ -7,11 +7,6 @@ use mathlib.Core.Bool.{Bool, true, false, cond, _&&_, _||_, not}
 use lib.Dec.{T, eqb, eqb→eq, eqb-refl, leb, leb→le, ltb, ltb→lt, T-not, not-T}
 pub use Rattle.component.specs.Laws.Tests.{and-fst, and-snd, and-both, or-cases, or-left, or-right, or-not, and-not}
 
--- If a conjunction fails, one of its parts fails.
-pub and-cases : (a b : Bool) → T (not (a && b)) → T (not a) ⊎ T (not b)
-and-cases true b t = inr t
-and-cases false b t = inl tt
-
 -- If both parts fail, a disjunction fails.
 pub or-neither : (a b : Bool) → T (not a) → T (not b) → T (not (a || b))
 or-neither true b s t = s
@@ -39,11 +34,6 @@ false-of false t = refl
 pub decided : (b : Bool) → T b ⊎ T (not b)
 decided true = inl tt
 decided false = inr tt
-
--- A double negation is no negation.
-pub not-twice : (b : Bool) → not (not b) ≡ b
-not-twice true = refl
-not-twice false = refl
 
 -- Two tests that pass together are equal.
 pub same-test : (a b : Bool) → (T a → T b) → (T b → T a) → a ≡ b
@@ -77,7 +67,3 @@ neqb→ne m n t e = T-not (eqb m n) t (eqb-of m n e)
 -- A number that is not above another passes as not above it.
 pub nltb-of : (m n : ℕ) → n ≤ m → T (not (ltb m n))
 nltb-of m n h = not-T (ltb m n) (λ t. omega (arith, ltb→lt m n t))
-
--- A number above another fails the test of being at most it.
-pub nleb-of : (m n : ℕ) → n < m → T (not (leb m n))
-nleb-of m n h = not-T (leb m n) (λ t. omega (arith, leb→le m n t))

@@ -24,12 +24,6 @@ module _ {K W : Type 0} where
       let r : (p : K × W) × Mem p t × (v ≡ p .1) = value-row t m in
       (r .0 .0, subst (λ w. Mem (r .0 .0, w) t) (sym (r .2)) (r .1))
 
-  -- What a change makes hold of each row holds of the rows after it.
-  pub change-all : (P : K → W → Type 0) (f : K → W → W) (t : List (K × W)) → ((k : K) (v : W) → Mem (k, v) t → P k (f k v)) → (k : K) (v : W) → Mem (k, v) (change f t) → P k v
-  change-all P f t g k v m =
-      let r : (p : K × W) × Mem p t × (_≡_ {A = K × W} (k, v) (p .0, f (p .0) (p .1))) = each-out (λ (p : K × W). (p .0, f (p .0) (p .1))) t m in
-      subst (λ (q : K × W). P (q .0) (q .1)) (sym (r .2)) (g (r .0 .0) (r .0 .1) (r .1))
-
 module _ {K W : Type 0} {eq lt : K → K → Bool} (laws : Ordered eq lt) (t : List (K × W)) (k : K) where
   -- A value after one is put is that one or an old one.
   pub value-put-out : (v : W) {w : W} → Mem w (values (put lt k v t)) → (w ≡ v) ⊎ Mem w (values t)
@@ -46,10 +40,6 @@ module _ {K W : Type 0} {eq lt : K → K → Bool} (laws : Ordered eq lt) (t : L
   value-put-in v {w} n m =
       let r : (j : K) × Mem (j, w) t = value-out t m in
       value-in (put-in laws t k v (λ e. key-free laws t n (subst (λ j. Mem j (keys t)) e (key-in (r .1)))) (r .1))
-
-  -- What holds of the row that is put and of the old rows holds of the rows after it.
-  pub put-all : (P : K → W → Type 0) (v : W) → P k v → ((j : K) (w : W) → Mem (j, w) t → P j w) → (j : K) (w : W) → Mem (j, w) (put lt k v t) → P j w
-  put-all P v x g j w m = ⊎-elim (λ e. subst (λ (q : K × W). P (q .0) (q .1)) (sym e) x) (λ i. g j w i) (put-out laws t k v m)
 
   -- A value after a key is dropped is an old one.
   pub value-drop-out : {w : W} → Mem w (values (dropKey eq k t)) → Mem w (values t)

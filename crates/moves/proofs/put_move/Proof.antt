@@ -8,7 +8,8 @@ use mathlib.Core.List.{_∷_}
 use lib.Dec.{leb}
 use lib.ListN.{length}
 use Rattle.component.specs.declared.Cell.{Cell}
-use Rattle.map.specs.Answers.{answerWords}
+use Rattle.neighbourhood.specs.Answers.{answerWords}
+use Rattle.layout.specs.Widths.{moveWidth}
 use Rattle.moves.specs.Laws.Words.{moved-not, moved-there, words-made}
 use Rattle.moves.proofs.put_move.Statement.{statement}
 use Rattle.moves.proofs.put_move.Tie as tie
@@ -23,7 +24,7 @@ returns c =
     moved-not (s .args .batch .now) (s .args .at) (s .args .e) (sym (h .has-room .ensures) ∙ not-true (h .has-room .result) (c .if1 .taken))
 
 -- Where there is room.
-roomy : (c : tie.Else1) → let s = c .before .before .before in leb (s .args .at + 5) (length (s .args .batch .now)) ≡ true
+roomy : (c : tie.Else1) → let s = c .before .before .before in leb (s .args .at + moveWidth) (length (s .args .batch .now)) ≡ true
 roomy c = sym (c .before .has-room .ensures) ∙ not-false (c .before .has-room .result) (c .if1 .left)
 
 slice-aggregate-write-cell : tie.Need-slice-aggregate-write-cell
@@ -44,8 +45,8 @@ write-row-requires c κs =
     let d = k .before in
     let r = d .before .before in
     let s = r .before .before .before in
-    let five : length (k .write-cell .last .0) ≡ 5 = ap length (k .write-cell .ensures ∙ words-made (s .args .e .entity) (d .stored .result)) in
-    subst (λ (n : ℕ). s .args .at + n ≤ length (s .args .batch .now)) (sym five) (leb-true (s .args .at + 5) (length (s .args .batch .now)) (roomy r))
+    let five : length (k .write-cell .last .0) ≡ moveWidth = ap length (k .write-cell .ensures ∙ words-made (s .args .e .entity) (d .stored .result)) in
+    subst (λ (n : ℕ). s .args .at + n ≤ length (s .args .batch .now)) (sym five) (leb-true (s .args .at + moveWidth) (length (s .args .batch .now)) (roomy r))
 
 same-length : tie.Need-same-length
 same-length c = search needs

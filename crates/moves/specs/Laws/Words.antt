@@ -8,16 +8,17 @@ use mathlib.Core.List.{List, [], _∷_, _++_}
 use lib.ListN.{length, take, drop}
 use lib.Seq.{drop-append-seam, length-take-le}
 use Rattle.component.specs.Coord.{coordInRange}
-use Rattle.component.specs.Stored.{stored}
+use Rattle.component.specs.Stored.{storedWord, signedWord, stored}
 use Rattle.component.specs.Laws.Range.{in-range-axes, range-of-stored}
 use Rattle.component.specs.Laws.Tests.{both}
 use Rattle.model.specs.Lists.{all, each, gather}
 use Rattle.model.specs.Cells.{Cell, cellInRange}
 use Rattle.table.specs.Moves.{over}
-use Rattle.map.specs.Answers.{signedWord, answerWords}
-use Rattle.batch.specs.Words.{storedWord, moveAt, movesIn}
+use Rattle.neighbourhood.specs.Answers.{answerWords}
+use Rattle.batch.specs.Words.{moveAt, movesIn}
 use Rattle.batch.specs.Laws.Words.{moves-more, move-from}
 use Rattle.metres.specs.declared.Placing.{Placing}
+use Rattle.layout.specs.Widths.{moveWidth}
 use Rattle.moves.specs.Words.{moveWords, moved, moveOf}
 
 word-back : (n : ℕ) → n ≤ 3147483648 → storedWord (signedWord n) ≡ n
@@ -31,15 +32,15 @@ move-back e rest h =
     λ i. (e .entity, record { grid = e .cell .grid; z = word-back (c .z) (r .z .1) i; y = word-back (c .y) (r .y .1) i; x = word-back (c .x) (r .x .1) i })
 
 -- The same at a place of a batch.
-pub move-there : (s : List ℕ) (at : ℕ) (e : Placing) → at + 5 ≤ length s → coordInRange (e .cell .coord) ≡ true → moveAt (over s at (moveWords e)) at ≡ moveOf e
+pub move-there : (s : List ℕ) (at : ℕ) (e : Placing) → at + moveWidth ≤ length s → coordInRange (e .cell .coord) ≡ true → moveAt (over s at (moveWords e)) at ≡ moveOf e
 unfolding over
 move-there s at e h k =
-    let x = moveWords e ++ drop (at + 5) s in
+    let x = moveWords e ++ drop (at + moveWidth) s in
     let l : length (take at s) ≡ at = length-take-le at s (shorter at (length s) h) in
     let seam : drop at (take at s ++ x) ≡ x = subst (λ (n : ℕ). drop n (take at s ++ x) ≡ x) l (drop-append-seam (take at s) x) in
-    sym (move-from (take at s ++ x) at) ∙ ap (λ (w : List ℕ). moveAt w 0) seam ∙ move-back e (drop (at + 5) s) k
+    sym (move-from (take at s ++ x) at) ∙ ap (λ (w : List ℕ). moveAt w 0) seam ∙ move-back e (drop (at + moveWidth) s) k
   where
-    shorter : (a n : ℕ) → a + 5 ≤ n → a ≤ n
+    shorter : (a n : ℕ) → a + moveWidth ≤ n → a ≤ n
     shorter a n h = omega arith
 
 -- One after the other.
@@ -58,11 +59,11 @@ moves-in (e ∷ es) h =
 
 -- ---- what is written
 module _ (s : List ℕ) (at : ℕ) (e : Placing) where
-  pub moved-not : leb (at + 5) (length s) ≡ false → _≡_ {A = ℕ × List ℕ} (1, s) (moved s at e)
+  pub moved-not : leb (at + moveWidth) (length s) ≡ false → _≡_ {A = ℕ × List ℕ} (1, s) (moved s at e)
   unfolding moved
   moved-not h = ap (λ (b : Bool). cond {A = ℕ × List ℕ} b (0, over s at (moveWords e)) (1, s)) (sym h)
 
-  pub moved-there : (t words : List ℕ) → leb (at + 5) (length s) ≡ true → t ≡ over s at words → words ≡ moveWords e → _≡_ {A = ℕ × List ℕ} (0, t) (moved s at e)
+  pub moved-there : (t words : List ℕ) → leb (at + moveWidth) (length s) ≡ true → t ≡ over s at words → words ≡ moveWords e → _≡_ {A = ℕ × List ℕ} (0, t) (moved s at e)
   unfolding moved
   moved-there t words h p q =
       ap (λ (l : List ℕ). (0, l)) (p ∙ ap (over s at) q) ∙ ap (λ (b : Bool). cond {A = ℕ × List ℕ} b (0, over s at (moveWords e)) (1, s)) (sym h)

@@ -1,3 +1,4 @@
+-- After j groups the question is about those that are left.
 use Rattle.partition.specs.Laws.Join.{all-on, all-not, all-end}
 use Rattle.model.specs.Lists.{all}
 use lib.ListN.{take, drop, getD}
@@ -8,8 +9,6 @@ use Prim.Native.Nat.{_-_, _≤_}
 use borrow.Author.Needs.{needs}
 use Rattle.partition.proofs.all_same.Statement.{statement}
 use Rattle.partition.proofs.all_same.Tie as tie
-use Rattle.partition.proofs.all_same.Reads as reads
-use Rattle.partition.proofs.all_same.Lts as lts
 
 abbrev Inv-loop : tie.InvT-loop
 Inv-loop found k first j₀ j = (j ≤ k) × (all (eqb (getD found 0 0)) (drop j (take k found)) ≡ all (eqb (getD found 0 0)) (take k found))

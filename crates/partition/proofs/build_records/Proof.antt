@@ -1,3 +1,5 @@
+-- After i rows the records are those of the first i cells.
+use Rattle.layout.specs.Widths.{idWidth, groupWidth}
 use Rattle.partition.specs.Laws.Records.{turn-asks, turn-done, all-done}
 use Rattle.partition.specs.Laws.Held.{groups-none}
 use Rattle.partition.specs.Held.{HeldTable, HeldGroups}
@@ -9,14 +11,10 @@ use Prim.Native.Nat.{_-_, _*_, _≤_}
 use borrow.Author.Needs.{needs}
 use Rattle.partition.proofs.build_records.Statement.{statement}
 use Rattle.partition.proofs.build_records.Tie as tie
-use Rattle.partition.proofs.build_records.Reads as reads
-use Rattle.partition.proofs.build_records.Lts as lts
-use Rattle.partition.proofs.count_cell.Reads as count-cell-reads
-use Rattle.table.proofs.cell_at.Reads as cell-at-reads
 
 abbrev Inv-loop : tie.InvT-loop
 Inv-loop ids n groups₀ k₀ i₀ groups k i =
-    (i ≤ n) × (length groups ≡ length groups₀) × (5 * n ≤ length ids) × (9 * n ≤ length groups₀)
+    (i ≤ n) × (length groups ≡ length groups₀) × (idWidth * n ≤ length ids) × (groupWidth * n ≤ length groups₀)
     × ((t : Ids) → HeldTable ids n t → HeldGroups groups k (records (take i t)))
 
 abbrev μ-loop : tie.MeasureT-loop

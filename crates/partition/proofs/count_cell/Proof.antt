@@ -1,3 +1,5 @@
+-- The record put is the grown one where the group has one, else that of its first cell.
+use Rattle.layout.specs.Widths.{groupWidth}
 use Rattle.partition.specs.Laws.Held.{groups-table, group-row, group-few, group-grown, group-first, count-asks, count-done}
 use Rattle.table.specs.declared.Place.the-variants.{Found, Missing}
 use Rattle.table.specs.declared.Place.{Place}
@@ -10,16 +12,11 @@ use Prim.Native.Nat.{ℕ, _+_, _*_, _≤_, _<_}
 use borrow.Author.Needs.{needs}
 use Rattle.partition.proofs.count_cell.Statement.{statement}
 use Rattle.partition.proofs.count_cell.Tie as tie
-use Rattle.partition.proofs.count_cell.Reads as reads
-use Rattle.partition.proofs.count_cell.Lts as lts
-use Rattle.partition.proofs.grown_row.Reads as grown-row-reads
-use Rattle.table.proofs.find1.Reads as find1-reads
-use Rattle.table.proofs.put1.Reads as put1-reads
 
 -- DEFS
 -- Where the group stands among the records.
 abbrev Is : tie.Start → Place → Type 0
-Is s p = p ≡ placeOf ltb (keys (tableOf number 9 (s .args .k) (s .args .groups .now))) (s .args .g)
+Is s p = p ≡ placeOf ltb (keys (tableOf number groupWidth (s .args .k) (s .args .groups .now))) (s .args .g)
 
 abbrev found : tie.After-known-told → ℕ
 found c = c .before .p .given .0 .0
@@ -33,7 +30,7 @@ missing c = c .enum-told .given .0 .0
 is-missing : (c : tie.After-enum-told) → Is (c .before .before .before .before .before) (Missing (missing c))
 is-missing c = sym (c .enum-told .given .1) ∙ c .before .before .find1 .ensures
 
-row : (c : tie.After-known-told) → let s = c .before .before .before .before .before .before in (found c < s .args .k) × (9 * found c + 9 ≤ length (s .args .groups .now))
+row : (c : tie.After-known-told) → let s = c .before .before .before .before .before .before in (found c < s .args .k) × (groupWidth * found c + groupWidth ≤ length (s .args .groups .now))
 row c = let s = c .before .before .before .before .before .before in group-row (s .args .groups .now) (s .args .k) (s .pre .0) (s .pre .1) (s .args .g) (found c) (is-found c)
 
 -- ENDDEFS

@@ -1,11 +1,13 @@
-use Rattle.partition.specs.Laws.Found.{found-none, found-more, found-same, tried-all}
+-- After k neighbours the ids found are those at the first k, and the words behind them are as they were.
+use Rattle.layout.specs.Widths.{idWidth, cellId}
+use Rattle.partition.specs.Laws.Found.{found-none, found-more, found-same, tried-all, rest-set}
 use Rattle.partition.specs.Laws.Ids.{row-found, row-missing}
 use Rattle.partition.specs.Laws.Held.{ids-table}
 use Rattle.partition.specs.Held.{HeldRows, tried, idsAt}
 use Rattle.model.specs.Groups.{Ids}
 use Rattle.model.specs.Cells.{same}
 use Rattle.model.specs.Lists.{get}
-use lib.ListN.{length, take, getD, length-set}
+use lib.ListN.{length, take, drop, getD, length-set}
 use mathlib.Core.Option.{some}
 use mathlib.Core.Path.{_≡_, refl, sym, ap, _∙_}
 use native.Mathlib.Omega.{arith}
@@ -13,12 +15,9 @@ use Prim.Native.Nat.{ℕ, _+_, _-_, _*_, _≤_, _<_}
 use borrow.Author.Needs.{needs}
 use Rattle.partition.proofs.found_at.Statement.{statement}
 use Rattle.partition.proofs.found_at.Tie as tie
-use Rattle.partition.proofs.found_at.Reads as reads
-use Rattle.partition.proofs.found_at.Lts as lts
-use Rattle.layout.proofs.neighbour_of.Reads as neighbour-of-reads
 
 abbrev Inv-loop : tie.InvT-loop
-Inv-loop ids n c found₀ near₀ m₀ k₀ found near m k = (k ≤ 26) × (m ≤ k) × (length found ≡ length found₀) × (26 ≤ length found₀) × ((t : Ids) → HeldRows ids n t → take m found ≡ idsAt t (tried c k))
+Inv-loop ids n c found₀ near₀ m₀ k₀ found near m k = (k ≤ 26) × (m ≤ k) × (length found ≡ length found₀) × (26 ≤ length found₀) × ((t : Ids) → HeldRows ids n t → take m found ≡ idsAt t (tried c k)) × (drop m found ≡ drop m found₀)
 
 abbrev μ-loop : tie.MeasureT-loop
 μ-loop ids n c found₀ near₀ m₀ k₀ found near m k = 26 - k
@@ -27,14 +26,14 @@ abbrev at : tie.After-known-told Inv-loop μ-loop → ℕ
 at c = c .before .p .given .0 .0
 
 is-found : (c : tie.After-known-told Inv-loop μ-loop) (t : Ids) → HeldRows (c .before .before .before .before .before .before .before .before .before .before .args .ids .now) (c .before .before .before .before .before .before .before .before .before .before .args .n) t
-    → (at c < c .before .before .before .before .before .before .before .before .before .before .args .n) × (get same t (c .before .before .before .before .before .neighbour-of .result) ≡ some (getD (c .before .before .before .before .before .before .before .before .before .before .args .ids .now) (5 * at c + 4) 0))
+    → (at c < c .before .before .before .before .before .before .before .before .before .before .args .n) × (get same t (c .before .before .before .before .before .neighbour-of .result) ≡ some (getD (c .before .before .before .before .before .before .before .before .before .before .args .ids .now) (idWidth * at c + cellId) 0))
 is-found c t h = row-found (c .before .before .before .before .before .before .before .before .before .before .args .ids .now) (c .before .before .before .before .before .before .before .before .before .before .args .n) t h (c .before .before .before .before .before .neighbour-of .result) (at c) (sym (c .before .p .given .1) ∙ c .before .before .before .before .find4-near .ensures)
 
-within : (c : tie.After-known-told Inv-loop μ-loop) → (at c < c .before .before .before .before .before .before .before .before .before .before .args .n) × (5 * c .before .before .before .before .before .before .before .before .before .before .args .n ≤ length (c .before .before .before .before .before .before .before .before .before .before .args .ids .now))
+within : (c : tie.After-known-told Inv-loop μ-loop) → (at c < c .before .before .before .before .before .before .before .before .before .before .args .n) × (idWidth * c .before .before .before .before .before .before .before .before .before .before .args .n ≤ length (c .before .before .before .before .before .before .before .before .before .before .args .ids .now))
 within c = let s = c .before .before .before .before .before .before .before .before .before .before in (is-found c (s .pre .0) (s .pre .1) .0, s .pre .1 .fits)
 
 loop-holds : tie.Need-loop-holds Inv-loop μ-loop
-loop-holds c = let s = c .before .before in (omega arith, omega arith, refl, s .pre .3, λ t h. found-none t (s .args .c) (s .args .found .now))
+loop-holds c = let s = c .before .before in (omega arith, omega arith, refl, s .pre .3, λ t h. found-none t (s .args .c) (s .args .found .now), refl)
 
 add-neighbour-of : tie.Need-add-neighbour-of Inv-loop μ-loop
 add-neighbour-of c = search needs
@@ -87,7 +86,8 @@ loop-again c =
       omega arith,
       simp length-set (v .2),
       v .3,
-      λ t h. found-more t (s .args .c) (l .k) (l .m) (l .found) (v .4 t h) (getD (s .args .ids .now) (5 * at (c .before) + 4) 0) (c .before .before .before .before .before .before .neighbour-of .result) (omega arith) (c .before .before .before .before .before .before .neighbour-of .ensures) (is-found (c .before) t h .1),
+      λ t h. found-more t (s .args .c) (l .k) (l .m) (l .found) (v .4 t h) (getD (s .args .ids .now) (idWidth * at (c .before) + cellId) 0) (c .before .before .before .before .before .before .neighbour-of .result) (omega arith) (c .before .before .before .before .before .before .neighbour-of .ensures) (is-found (c .before) t h .1),
+      rest-set (l .found) (s .args .found .now) (l .m) (getD (s .args .ids .now) (idWidth * at (c .before) + cellId) 0) (v .5),
     )
 
 enum-told : tie.Need-enum-told Inv-loop μ-loop
@@ -110,6 +110,7 @@ loop-again-2 c =
       v .3,
       λ t h. found-same t (s .args .c) (l .k) (l .m) (l .found) (v .4 t h) (c .before .before .before .before .neighbour-of .result) (c .before .before .before .before .neighbour-of .ensures)
           (row-missing (s .args .ids .now) (s .args .n) t h (c .before .before .before .before .neighbour-of .result) (c .enum-told .given .0 .0) (sym (c .enum-told .given .1) ∙ c .before .before .before .find4-near .ensures)),
+      v .5,
     )
 
 same-length : tie.Need-same-length Inv-loop μ-loop
@@ -120,7 +121,7 @@ returns c =
     let s = c .before .before .before .before in
     let v = c .before .loop .inv in
     let e : c .before .loop .k ≡ 26 = omega arith in
-    (omega arith, λ t h. v .4 t h ∙ ap (λ (k : ℕ). idsAt t (tried (s .args .c) k)) e ∙ tried-all (s .args .c) (s .pre .2) t (h .asc))
+    (omega arith, λ t h. v .4 t h ∙ ap (λ (k : ℕ). idsAt t (tried (s .args .c) k)) e ∙ tried-all (s .args .c) (s .pre .2) t (h .asc), v .5)
 
 pub found-at-spec : {M : Type 1} → statement M
 found-at-spec =

@@ -1,3 +1,4 @@
+-- After j groups the question is about those that are left.
 use Rattle.partition.specs.Laws.Join.{has-here, has-on, has-end}
 use Rattle.model.specs.Lists.{has}
 use lib.Dec.{eqb}
@@ -8,8 +9,6 @@ use Prim.Native.Nat.{_-_, _≤_}
 use borrow.Author.Needs.{needs}
 use Rattle.partition.proofs.is_found.Statement.{statement}
 use Rattle.partition.proofs.is_found.Tie as tie
-use Rattle.partition.proofs.is_found.Reads as reads
-use Rattle.partition.proofs.is_found.Lts as lts
 
 abbrev Inv-loop : tie.InvT-loop
 Inv-loop found k g j₀ j = (j ≤ k) × (has eqb (drop j (take k found)) g ≡ has eqb (take k found) g)

@@ -1,15 +1,9 @@
+-- Where all groups found are the same nothing merges; else all become the largest.
 use Rattle.partition.specs.Laws.Join.{join-same, join-done}
 use mathlib.Core.Path.{sym, _∙_}
-use Prim.Native.Nat.{_-_}
 use borrow.Author.Needs.{needs}
 use Rattle.partition.proofs.join.Statement.{statement}
 use Rattle.partition.proofs.join.Tie as tie
-use Rattle.partition.proofs.join.Reads as reads
-use Rattle.partition.proofs.join.Lts as lts
-use Rattle.partition.proofs.all_same.Reads as all-same-reads
-use Rattle.partition.proofs.largest.Reads as largest-reads
-use Rattle.partition.proofs.merge.Reads as merge-reads
-use Rattle.partition.proofs.push.Reads as push-reads
 
 shared-slice-read-push : tie.Need-shared-slice-read-push
 shared-slice-read-push c = search needs
@@ -34,7 +28,9 @@ largest-requires : tie.Need-largest-requires
 largest-requires c κs = search needs
 
 merge-requires : tie.Need-merge-requires
-merge-requires c κs = search needs
+merge-requires c κs =
+    let s = c .before .before .before .before .before .before .before .before .before .before .before .before in
+    (_, c .before .before .before .before .before .before .before .push .ensures .1 (s .pre .0) (s .pre .1), s .pre .5)
 
 same-length-2 : tie.Need-same-length-2
 same-length-2 c = search needs
@@ -44,7 +40,7 @@ returns-2 c =
     let s = c .before .before .before .before .before .before .before .before .before .before .before .before .before .before .before in
     let a = s .args in
     let p = c .before .before .before .before .before .before .before .before .before .before .push .ensures in
-    (p .0, λ t h. join-done t (a .c) (a .found .now) (a .k) (s .pre .4) _ _ _ _ (p .1 t h) (c .before .before .before .before .largest .ensures _ (p .1 t h)) (c .before .before .merge .ensures))
+    (p .0, λ t h. join-done t (a .c) (a .found .now) (a .k) (s .pre .4) _ _ _ _ (p .1 t h) (c .before .before .before .before .largest .ensures) (c .before .before .merge .ensures))
 
 pub join-spec : {M : Type 1} → statement M
 join-spec =

@@ -1,6 +1,7 @@
+-- The best so far with the groups left has the same largest as all.
 use Rattle.partition.specs.Laws.Join.{largest-new, largest-old, largest-end}
-use Rattle.partition.specs.Held.{HeldRows}
-use Rattle.model.specs.Groups.{Ids, largestGroup}
+use Rattle.layout.specs.Rows.{idsIn}
+use Rattle.model.specs.Groups.{largestGroup}
 use lib.ListN.{take, drop, getD}
 use mathlib.Core.Path.{_≡_, refl}
 use native.Mathlib.Omega.{arith}
@@ -8,12 +9,9 @@ use Prim.Native.Nat.{_-_, _≤_}
 use borrow.Author.Needs.{needs}
 use Rattle.partition.proofs.largest.Statement.{statement}
 use Rattle.partition.proofs.largest.Tie as tie
-use Rattle.partition.proofs.largest.Reads as reads
-use Rattle.partition.proofs.largest.Lts as lts
-use Rattle.partition.proofs.group_size.Reads as group-size-reads
 
 abbrev Inv-loop : tie.InvT-loop
-Inv-loop ids n found k best₀ j₀ best j = (1 ≤ j) × (j ≤ k) × ((t : Ids) → HeldRows ids n t → largestGroup t best (drop j (take k found)) ≡ largestGroup t (getD found 0 0) (drop 1 (take k found)))
+Inv-loop ids n found k best₀ j₀ best j = (1 ≤ j) × (j ≤ k) × (largestGroup (idsIn n ids) best (drop j (take k found)) ≡ largestGroup (idsIn n ids) (getD found 0 0) (drop 1 (take k found)))
 
 abbrev μ-loop : tie.MeasureT-loop
 μ-loop ids n found k best₀ j₀ best j = k - j
@@ -22,7 +20,7 @@ shared-slice-read-best : tie.Need-shared-slice-read-best Inv-loop μ-loop
 shared-slice-read-best c = search needs
 
 loop-holds : tie.Need-loop-holds Inv-loop μ-loop
-loop-holds c = let s = c .before .before .before in (omega arith, s .pre .1, λ t h. refl)
+loop-holds c = let s = c .before .before .before in (omega arith, s .pre .1, refl)
 
 group-size-requires : tie.Need-group-size-requires Inv-loop μ-loop
 group-size-requires c κs = c .before .before .before .before .before .pre .0
@@ -53,10 +51,9 @@ loop-again c =
     let s = c .before .before .before .before .before .before .before .before .before .before in (
       omega arith,
       omega arith,
-      λ t h.
-          let a = c .before .before .before .before .group-size .ensures t h in
-          let b = c .before .before .group-size2 .ensures t h in
-          largest-new t (s .args .found .now) (s .args .k) (c .before .before .before .before .before .before .loop .j) (c .before .before .before .before .before .before .loop .best) (omega arith) (s .pre .2) _ (c .before .before .before .before .before .before .loop .inv .2 t h) (omega (arith, c .before .if1 .taken)),
+      let a = c .before .before .before .before .group-size .ensures in
+          let b = c .before .before .group-size2 .ensures in
+          largest-new (idsIn (s .args .n) (s .args .ids .now)) (s .args .found .now) (s .args .k) (c .before .before .before .before .before .before .loop .j) (c .before .before .before .before .before .before .loop .best) (omega arith) (s .pre .2) _ (c .before .before .before .before .before .before .loop .inv .2) (omega (arith, a, b, c .before .if1 .taken)),
     )
 
 add-j-2 : tie.Need-add-j-2 Inv-loop μ-loop
@@ -70,14 +67,13 @@ loop-again-2 c =
     let s = c .before .before .before .before .before .before .before .before .before in (
       omega arith,
       omega arith,
-      λ t h.
-          let a = c .before .before .before .group-size .ensures t h in
-          let b = c .before .group-size2 .ensures t h in
-          largest-old t (s .args .found .now) (s .args .k) (c .before .before .before .before .before .loop .j) (c .before .before .before .before .before .loop .best) (omega arith) (s .pre .2) _ (c .before .before .before .before .before .loop .inv .2 t h) (omega (arith, c .if1 .left)),
+      let a = c .before .before .before .group-size .ensures in
+          let b = c .before .group-size2 .ensures in
+          largest-old (idsIn (s .args .n) (s .args .ids .now)) (s .args .found .now) (s .args .k) (c .before .before .before .before .before .loop .j) (c .before .before .before .before .before .loop .best) (omega arith) (s .pre .2) _ (c .before .before .before .before .before .loop .inv .2) (omega (arith, a, b, c .if1 .left)),
     )
 
 returns : tie.Need-returns Inv-loop μ-loop
-returns c = let s = c .before .before .before .before .before in λ t h. largest-end t (s .args .found .now) (s .args .k) (c .before .loop .j) (c .before .loop .best) _ (omega arith) (s .pre .2) (c .before .loop .inv .2 t h)
+returns c = let s = c .before .before .before .before .before in largest-end (idsIn (s .args .n) (s .args .ids .now)) (s .args .found .now) (s .args .k) (c .before .loop .j) (c .before .loop .best) _ (omega arith) (s .pre .2) (c .before .loop .inv .2)
 
 pub largest-spec : {M : Type 1} → statement M
 largest-spec =

@@ -1,3 +1,4 @@
+-- The row put is that of the cell with its id.
 use Rattle.partition.specs.Laws.Ids.{push-asks, push-done}
 use Rattle.partition.specs.Laws.Held.{put-shorter}
 use Rattle.model.specs.Laws.Orders.{cells}
@@ -5,9 +6,6 @@ use native.Mathlib.Omega.{arith}
 use borrow.Author.Needs.{needs}
 use Rattle.partition.proofs.push.Statement.{statement}
 use Rattle.partition.proofs.push.Tie as tie
-use Rattle.partition.proofs.push.Reads as reads
-use Rattle.partition.proofs.push.Lts as lts
-use Rattle.table.proofs.put4.Reads as put4-reads
 
 slice-aggregate-put4 : tie.Need-slice-aggregate-put4
 slice-aggregate-put4 c = search needs

@@ -1,14 +1,9 @@
+-- The cell takes the next id where no group is found, else it joins.
 use Rattle.partition.specs.Laws.Join.{rule1-none, rule1-some}
 use native.Mathlib.Omega.{arith}
-use Prim.Native.Nat.{_-_}
 use borrow.Author.Needs.{needs}
 use Rattle.partition.proofs.rule1.Statement.{statement}
 use Rattle.partition.proofs.rule1.Tie as tie
-use Rattle.partition.proofs.rule1.Reads as reads
-use Rattle.partition.proofs.rule1.Lts as lts
-use Rattle.partition.proofs.found_at.Reads as found-at-reads
-use Rattle.partition.proofs.join.Reads as join-reads
-use Rattle.partition.proofs.push.Reads as push-reads
 
 slice-aggregate-found-at : tie.Need-slice-aggregate-found-at
 slice-aggregate-found-at c = search needs

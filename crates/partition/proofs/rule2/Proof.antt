@@ -1,12 +1,8 @@
+-- The rows that stay, with zeros behind them, are the table without the emptied cells.
 use Rattle.partition.specs.Laws.Leave.{sift-all}
-use mathlib.Core.Path.{refl}
 use borrow.Author.Needs.{needs}
 use Rattle.partition.proofs.rule2.Statement.{statement}
 use Rattle.partition.proofs.rule2.Tie as tie
-use Rattle.partition.proofs.rule2.Reads as reads
-use Rattle.partition.proofs.rule2.Lts as lts
-use Rattle.partition.proofs.sift.Reads as sift-reads
-use Rattle.table.proofs.write_zeros.Reads as write-zeros-reads
 
 sift-requires : tie.Need-sift-requires
 sift-requires c κs = search needs
@@ -34,7 +30,7 @@ returns c =
       f .ensures .0,
       λ next g l h k.
           record {
-            rows = sift-all (a .ids .now) _ _ (a .n) (g .ids) (h .rows) l (a .n) (f .result) refl (f .ensures .0) (f .ensures .1) (f .kept .0) (f .ensures .2 (g .ids) l (h .rows) k) (c .before .before .write-zeros .ensures);
+            rows = sift-all (a .ids .now) _ _ (a .n) (g .ids) (h .rows) l (f .result) (f .ensures .0) (f .ensures .1) (f .kept .0) (f .ensures .2 (g .ids) l (h .rows) k) (c .before .before .write-zeros .ensures);
             is-next = h .is-next;
           },
     )

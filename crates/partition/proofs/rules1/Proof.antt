@@ -1,3 +1,5 @@
+-- After i cells the groups are those of rule 1 for the first i.
+use Rattle.layout.specs.Widths.{idWidth, netWidth}
 use Rattle.partition.specs.Laws.Join.{rules1-more, rules1-all}
 use Rattle.partition.specs.Laws.Held.{cells-ranged}
 use Rattle.partition.specs.Held.{HeldIds, HeldCells}
@@ -13,14 +15,10 @@ use Prim.Native.Nat.{_+_, _-_, _*_, _≤_, _<_}
 use borrow.Author.Needs.{needs}
 use Rattle.partition.proofs.rules1.Statement.{statement}
 use Rattle.partition.proofs.rules1.Tie as tie
-use Rattle.partition.proofs.rules1.Reads as reads
-use Rattle.partition.proofs.rules1.Lts as lts
-use Rattle.partition.proofs.rule1.Reads as rule1-reads
-use Rattle.table.proofs.cell_at.Reads as cell-at-reads
 
 abbrev Inv-loop : tie.InvT-loop
 Inv-loop ids₀ n next occupied m count₀ id₀ i₀ ids count id i =
-    (i ≤ m) × (length ids ≡ length ids₀) × (4 * m ≤ length occupied) × (5 * n + 5 * m ≤ length ids₀) × (next + m < 18446744073709551616) × (count ≤ n + i) × (id ≤ next + i)
+    (i ≤ m) × (length ids ≡ length ids₀) × (netWidth * m ≤ length occupied) × (idWidth * n + idWidth * m ≤ length ids₀) × (next + m < 18446744073709551616) × (count ≤ n + i) × (id ≤ next + i)
     × ((s : Groups) (l : List Cell) → HeldIds ids₀ n next s → HeldCells occupied m l → HeldIds ids count id (run (rule1 touch26) s (take i l)))
 
 abbrev μ-loop : tie.MeasureT-loop

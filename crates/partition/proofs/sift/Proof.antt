@@ -1,26 +1,24 @@
-use Rattle.partition.specs.Laws.Leave.{sift-none, sift-drop, sift-keep, sift-back, back-more}
+-- After i rows those that stay fill the first j, and the words behind them are as they were.
+use Rattle.layout.specs.Widths.{idWidth}
+use Rattle.partition.specs.Laws.Leave.{sift-none, sift-drop, sift-keep, sift-back}
+use Rattle.partition.specs.Laws.Held.{cells-table, cells-keys}
 use Rattle.partition.specs.Held.{HeldRows, HeldCells, Sifted}
 use Rattle.model.specs.Groups.{Ids}
 use Rattle.model.specs.Cells.{Cell, same}
 use Rattle.model.specs.Lists.{has}
 use lib.ListN.{length, drop}
 use mathlib.Core.List.{List}
-use mathlib.Core.Path.{_≡_, refl, sym, ap, _∙_, subst}
+use mathlib.Core.Path.{_≡_, refl, _∙_, subst}
 use native.Mathlib.Omega.{arith}
 use Prim.Native.Nat.{ℕ, _-_, _*_, _≤_}
 use borrow.Author.Needs.{needs}
 use Rattle.partition.proofs.sift.Statement.{statement}
 use Rattle.partition.proofs.sift.Tie as tie
-use Rattle.partition.proofs.sift.Reads as reads
-use Rattle.partition.proofs.sift.Lts as lts
-use Rattle.partition.proofs.copy_row.Reads as copy-row-reads
-use Rattle.partition.proofs.is_among.Reads as is-among-reads
-use Rattle.table.proofs.cell_at.Reads as cell-at-reads
 
 abbrev Inv-loop : tie.InvT-loop
 Inv-loop ids₀ n emptied m j₀ i₀ ids j i =
-    (j ≤ i) × (i ≤ n) × (length ids ≡ length ids₀) × (5 * n ≤ length ids₀) × (drop (5 * i) ids ≡ drop (5 * i) ids₀)
-    × ((t : Ids) (l : List Cell) → HeldRows ids₀ n t → HeldCells emptied m l → Sifted ids₀ ids i j l t)
+    (j ≤ i) × (i ≤ n) × (length ids ≡ length ids₀) × (idWidth * n ≤ length ids₀) × (drop (idWidth * j) ids ≡ drop (idWidth * j) ids₀)
+    × ((t : Ids) (l : List Cell) → HeldRows ids₀ n t → HeldCells emptied m l → Sifted ids i j l t)
 
 abbrev μ-loop : tie.MeasureT-loop
 μ-loop ids₀ n emptied m j₀ i₀ ids j i = n - i
@@ -34,8 +32,8 @@ mul-cell-at c = search needs
 cell-at-requires : tie.Need-cell-at-requires Inv-loop μ-loop
 cell-at-requires c κs = search needs
 
-is-among-requires : tie.Need-is-among-requires Inv-loop μ-loop
-is-among-requires c κs = (c .before .before .before .before .before .before .pre .1, c .before .before .before .before .before .before .pre .3)
+contains-requires : tie.Need-contains-requires Inv-loop μ-loop
+contains-requires c κs = let s = c .before .before .before .before .before .before in cells-table (s .args .emptied .now) (s .args .m) (s .pre .1) (s .pre .3)
 
 add-i : tie.Need-add-i Inv-loop μ-loop
 add-i c = search needs
@@ -52,9 +50,9 @@ loop-again c =
       omega arith,
       v .2,
       v .3,
-      back-more (c .before .before .before .before .before .loop .ids) (a .ids .now) (c .before .before .before .before .before .loop .i) (v .4),
+      v .4,
       λ t l h k. sift-drop (a .ids .now) (c .before .before .before .before .before .loop .ids) (a .n) t h l (c .before .before .before .before .before .loop .i) (c .before .before .before .before .before .loop .j) (omega arith) (v .4) (omega arith) (v .0) (v .5 t l h k)
-          (c .before .is-among .result) (c .before .is-among .ensures l k ∙ ap (has same l) (c .before .before .cell-at .ensures)) (c .if1 .taken),
+          (c .before .contains .result) (c .before .contains .ensures ∙ (λ d. has same (cells-keys (a .emptied .now) (a .m) l k d) (c .before .before .cell-at .ensures d))) (c .if1 .taken),
     )
 
 copy-row-requires : tie.Need-copy-row-requires Inv-loop μ-loop
@@ -84,7 +82,7 @@ loop-again-2 c =
       v .3,
       sift-back (a .ids .now) (c .before .before .before .before .before .before .before .before .before .loop .ids) (a .n) t₀ h₀ (s .pre .1) (c .before .before .before .before .before .before .before .before .before .loop .i) (c .before .before .before .before .before .before .before .before .before .loop .j) (omega arith) (v .4) (omega arith) (v .0) (v .5 t₀ (s .pre .1) h₀ k₀) _ q,
       λ t l h k. sift-keep (a .ids .now) (c .before .before .before .before .before .before .before .before .before .loop .ids) (a .n) t h l (c .before .before .before .before .before .before .before .before .before .loop .i) (c .before .before .before .before .before .before .before .before .before .loop .j) (omega arith) (v .4) (omega arith) (v .0) (v .5 t l h k)
-          (c .before .before .before .before .before .is-among .result) (c .before .before .before .before .before .is-among .ensures l k ∙ ap (has same l) (c .before .before .before .before .before .before .cell-at .ensures)) (c .before .before .before .before .if1 .left) _ q,
+          (c .before .before .before .before .before .contains .result) (c .before .before .before .before .before .contains .ensures ∙ (λ d. has same (cells-keys (a .emptied .now) (a .m) l k d) (c .before .before .before .before .before .before .cell-at .ensures d))) (c .before .before .before .before .if1 .left) _ q,
     )
 
 same-length : tie.Need-same-length Inv-loop μ-loop
@@ -97,8 +95,8 @@ returns c =
     let v = c .before .loop .inv in
     let e : c .before .loop .i ≡ a .n = omega arith in (
       omega arith,
-      ap (λ (m : ℕ). drop (5 * m) (c .before .loop .ids)) (sym e) ∙ v .4 ∙ ap (λ (m : ℕ). drop (5 * m) (a .ids .now)) e,
-      λ t l h k. subst (λ (m : ℕ). Sifted (a .ids .now) (c .before .loop .ids) m (c .before .loop .j) l t) e (v .5 t l h k),
+      v .4,
+      λ t l h k. subst (λ (m : ℕ). Sifted (c .before .loop .ids) m (c .before .loop .j) l t) e (v .5 t l h k),
     )
 
 pub sift-spec : {M : Type 1} → statement M
@@ -110,7 +108,7 @@ sift-spec =
     loop-holds
     mul-cell-at
     cell-at-requires
-    is-among-requires
+    contains-requires
     add-i
     loop-less
     loop-again

@@ -7,8 +7,8 @@ use mathlib.Core.Bool.{Bool, true, false, cond, not}
 use mathlib.Core.List.{List, [], _∷_, _++_, append-nil, List·Memᴰ as Mem, List·Memᴰ·head as head, List·Memᴰ·tail as tail}
 use mathlib.Core.Option.{Option, none, some}
 use lib.Dec.{T, ltb→lt}
-use lib.ListN.{length, take, set}
-use lib.Seq.{take-suc-set}
+use lib.ListN.{length, take, drop, set}
+use lib.Seq.{take-suc-set, drop-set-lt, drop-drop}
 use Rattle.component.specs.Adjacent.{hasRoom}
 use Rattle.component.specs.Laws.Adjacent.{range-room, room-above}
 use Rattle.component.specs.Laws.Neighbours.{neighbours-ordered}
@@ -33,7 +33,7 @@ count-more k (suc n) =
     ap (λ (l : List ℕ). k ∷ l) (count-more (suc k) n ∙ ap (λ (m : ℕ). count (suc k) n ++ m ∷ []) e)
 
 -- One neighbour more is tried.
-pub tried-more : (c : Cell) (k : ℕ) → tried c (k + 1) ≡ tried c k ++ neighbourOf c (k + 1) ∷ []
+tried-more : (c : Cell) (k : ℕ) → tried c (k + 1) ≡ tried c k ++ neighbourOf c (k + 1) ∷ []
 unfolding tried idsAt
 tried-more c k =
     let e : 1 + k ≡ k + 1 = omega arith in
@@ -44,7 +44,7 @@ tried-more c k =
 
 module _ (t : Ids) where
   -- The ids of cells with one more.
-  pub ids-at-more : (l : List Cell) (d : Cell) → idsAt t (l ++ d ∷ []) ≡ idsAt t l ++ listOf (get same t d)
+  ids-at-more : (l : List Cell) (d : Cell) → idsAt t (l ++ d ∷ []) ≡ idsAt t l ++ listOf (get same t d)
   unfolding tried idsAt
   ids-at-more l d = gather-append (λ e. listOf (get same t e)) l (d ∷ []) ∙ ap (λ (x : List ℕ). idsAt t l ++ x) (append-none (listOf (get same t d)))
     where
@@ -131,6 +131,10 @@ module _ (t : Ids) (c : Cell) (k m : ℕ) (found : List ℕ) (so : take m found 
       ∙ ap (λ (o : Option ℕ). idsAt t (tried c k) ++ listOf o) (sym f)
       ∙ ap (λ (x : Cell). idsAt t (tried c k) ++ listOf (get same t x)) e
       ∙ sym (ap (idsAt t) (tried-more c k) ∙ ids-at-more t (tried c k) (neighbourOf c (k + 1)))
+
+-- A word is written at m, and behind it the words are as they were.
+pub rest-set : (x y : List ℕ) (m v : ℕ) → drop m x ≡ drop m y → drop (m + 1) (set x m v) ≡ drop (m + 1) y
+rest-set x y m v e = drop-set-lt (m + 1) x m v (omega arith) ∙ sym (drop-drop 1 m x) ∙ ap (drop 1) e ∙ drop-drop 1 m y
 
 -- No neighbour is tried yet.
 pub found-none : (t : Ids) (c : Cell) (found : List ℕ) → take 0 found ≡ idsAt t (tried c 0)

@@ -21,10 +21,11 @@ use Rattle.table.specs.Laws.Answers.{found-below, found-is, found-rest, missing
 use Rattle.table.specs.Laws.Kinds.{Lawful, number-lawful, cell-lawful}
 use Rattle.table.specs.Laws.Images.{image-length}
 use Rattle.table.specs.Laws.Next.{stored-next, room-space}
-use Rattle.table.specs.Laws.Words.{entry-at, word-at, rest-at, number-at, cell-at}
+use Rattle.table.specs.Laws.Words.{table-length, entry-at, word-at, rest-at, number-at, cell-at}
 use lib.Seq.{drop-cons}
-use Rattle.layout.specs.Rows.{idRow, idOf, groupRow, netRow, idsImage, groupsImage, netImage}
-use Rattle.partition.specs.Held.{HeldTable, HeldRows, HeldCells, HeldGroups, grown, grownWords, fewCells}
+use Rattle.layout.specs.Rows.{idRow, idOf, groupRow, netRow, idsImage, groupsImage, netImage, idsIn}
+use Rattle.layout.specs.Widths.{idWidth, cellId, netWidth, groupWidth, groupCells}
+use Rattle.partition.specs.Held.{HeldTable, HeldRows, HeldCells, HeldGroups, grown, grownWords, fewCells, rowIn}
 
 module _ {A B : Type 0} (f : A → B) where
   pub each-drop : (i : ℕ) (l : List A) → each f (drop i l) ≡ drop i (each f l)
@@ -61,7 +62,7 @@ module _ {K U W : Type 0} (f : U → W) where
       go false true e = ap (λ (m : List (K × W)). (p .0, f (p .1)) ∷ m) e
       go false false e = refl
 
-  pub through-keys : (l : List (K × U)) → keys (through l) ≡ keys l
+  through-keys : (l : List (K × U)) → keys (through l) ≡ keys l
   through-keys [] = refl
   through-keys (p ∷ l) = ap (λ (m : List K). p .0 ∷ m) (through-keys l)
 
@@ -102,39 +103,55 @@ some-inj {a} e = ap (λ o. elim o [ none ↦ a | some c ↦ c ]) e
 abbrev pub oneId : ℕ → List ℕ
 oneId g = g ∷ []
 
+-- The rows of any words, one after the other.
+module _ (words : List ℕ) (n : ℕ) where
+  -- There are n rows.
+  pub read-length : length (idsIn n words) ≡ n
+  unfolding idsIn
+  read-length = each-length idOf (tableOf cell idWidth n words) ∙ table-length cell idWidth n words
+
+  -- From row i on stand the cell and the id of row i, and the rows behind it.
+  pub read-at : (i : ℕ) → i < n → drop i (idsIn n words) ≡ rowIn words i ∷ drop (suc i) (idsIn n words)
+  unfolding idsIn
+  read-at i h =
+      let r : List ℕ = getD (rowsOf idWidth n words) i [] in
+      let at : (j : ℕ) → j < idWidth → getD r j 0 ≡ getD words (idWidth * i + j) 0 = λ j l. word-at idWidth n words i j h l in
+      let z : getD words (idWidth * i + 0) 0 ≡ getD words (idWidth * i) 0 = ap (λ (m : ℕ). getD words m 0) (omega arith) in
+      let e : _≡_ {A = Cell × ℕ} (idOf (entryOf cell r)) (rowIn words i) =
+      (λ k. (
+        record { grid = (at 0 (omega arith) ∙ z) k; z = at 1 (omega arith) k; y = at 2 (omega arith) k; x = at 3 (omega arith) k },
+        rest-at idWidth n words i cellId 0 h (omega arith) k,
+      )) in
+      sym (each-drop idOf i (tableOf cell idWidth n words))
+      ∙ ap (each idOf) (entry-at cell idWidth n words i h)
+      ∙ (λ k. e k ∷ each-drop idOf (suc i) (tableOf cell idWidth n words) k)
+
 module _ (words : List ℕ) (n : ℕ) (t : Ids) (held : HeldTable words n t) where
-  plain-both : (isTableOf cell 5 n words ≡ true) × (tableOf cell 5 n words ≡ each idRow t)
+  plain-both : (isTableOf cell idWidth n words ≡ true) × (tableOf cell idWidth n words ≡ each idRow t)
   unfolding idsImage
   plain-both =
-      image-table cell 5 idRow (λ a. refl) cell-lawful (omega arith) words n t (held .image) (held .count)
+      image-table cell idWidth idRow (λ a. refl) cell-lawful (omega arith) words n t (held .image) (held .count)
       (subst (λ (l : List Cell). Asc below l) (sym (through-keys oneId t)) (held .asc))
 
   -- The words are a table.
-  pub plain-table : isTableOf cell 5 n words ≡ true
+  plain-table : isTableOf cell idWidth n words ≡ true
   plain-table = plain-both .0
 
   -- Its rows are those of the cells with ids.
-  pub plain-rows : tableOf cell 5 n words ≡ each idRow t
+  plain-rows : tableOf cell idWidth n words ≡ each idRow t
   plain-rows = plain-both .1
 
-  pub plain-read : each idOf (tableOf cell 5 n words) ≡ t
+  -- The rows that are read are those held.
+  plain-read : idsIn n words ≡ t
+  unfolding idsIn
   plain-read = ap (each idOf) plain-rows ∙ each-each idOf idRow t ∙ each-same (λ (p : Cell × ℕ). idOf (idRow p)) t (λ p m. refl)
 
   -- From row i on stand the cell and the id of row i, and the rows behind it.
-  pub plain-at : (i : ℕ) → i < n → drop i t ≡ (cellAt words (5 * i), getD words (5 * i + 4) 0) ∷ drop (suc i) t
+  pub plain-at : (i : ℕ) → i < n → drop i t ≡ rowIn words i ∷ drop (suc i) t
   plain-at i h =
-      let r : List ℕ = getD (rowsOf 5 n words) i [] in
-      let at : (j : ℕ) → j < 5 → getD r j 0 ≡ getD words (5 * i + j) 0 = λ j l. word-at 5 n words i j h l in
-      let z : getD words (5 * i + 0) 0 ≡ getD words (5 * i) 0 = ap (λ (m : ℕ). getD words m 0) (omega arith) in
-      let e : _≡_ {A = Cell × ℕ} (idOf (entryOf cell r)) (cellAt words (5 * i), getD words (5 * i + 4) 0) =
-      (λ k. (
-        record { grid = (at 0 (omega arith) ∙ z) k; z = at 1 (omega arith) k; y = at 2 (omega arith) k; x = at 3 (omega arith) k },
-        rest-at 5 n words i 4 0 h (omega arith) k,
-      )) in
       ap (drop i) (sym plain-read)
-      ∙ sym (each-drop idOf i (tableOf cell 5 n words))
-      ∙ ap (each idOf) (entry-at cell 5 n words i h)
-      ∙ (λ k. e k ∷ (each-drop idOf (suc i) (tableOf cell 5 n words) ∙ ap (drop (suc i)) plain-read) k)
+      ∙ read-at words n i h
+      ∙ ap (λ (u : Ids). rowIn words i ∷ drop (suc i) u) plain-read
 
 -- Cells in range are cells.
 pub plain : {words : List ℕ} {n : ℕ} {t : Ids} → HeldRows words n t → HeldTable words n t
@@ -142,18 +159,19 @@ plain held = record { image = held .image; count = held .count; asc = held .asc;
 
 module _ (words : List ℕ) (n : ℕ) (t : Ids) (held : HeldRows words n t) where
   -- The words are a table.
-  pub ids-table : isTableOf cell 5 n words ≡ true
+  pub ids-table : isTableOf cell idWidth n words ≡ true
   ids-table = plain-table words n t (plain held)
 
   -- Its rows are those of the cells with ids.
-  pub ids-rows : tableOf cell 5 n words ≡ each idRow t
+  pub ids-rows : tableOf cell idWidth n words ≡ each idRow t
   ids-rows = plain-rows words n t (plain held)
 
-  pub ids-read : each idOf (tableOf cell 5 n words) ≡ t
+  -- The rows that are read are those held.
+  pub ids-read : idsIn n words ≡ t
   ids-read = plain-read words n t (plain held)
 
   -- From row i on stand the cell and the id of row i, and the rows behind it.
-  pub ids-at : (i : ℕ) → i < n → drop i t ≡ (cellAt words (5 * i), getD words (5 * i + 4) 0) ∷ drop (suc i) t
+  pub ids-at : (i : ℕ) → i < n → drop i t ≡ rowIn words i ∷ drop (suc i) t
   ids-at = plain-at words n t (plain held)
 
 -- Cells.
@@ -161,67 +179,67 @@ module _ (words : List ℕ) (m : ℕ) (l : List Cell) (held : HeldCells words m 
   net-keys : (k : List Cell) → keys (each netRow k) ≡ k
   net-keys k = each-each (λ (p : Cell × List ℕ). p .0) netRow k ∙ each-same (λ (c : Cell). c) k (λ c i. refl)
 
-  cells-both : (isTableOf cell 4 m words ≡ true) × (tableOf cell 4 m words ≡ each netRow l)
+  cells-both : (isTableOf cell netWidth m words ≡ true) × (tableOf cell netWidth m words ≡ each netRow l)
   unfolding netImage
   cells-both =
-      image-table cell 4 netRow (λ a. refl) cell-lawful (omega arith) words m l (held .image) (held .count)
+      image-table cell netWidth netRow (λ a. refl) cell-lawful (omega arith) words m l (held .image) (held .count)
       (subst (λ (k : List Cell). Asc below k) (sym (net-keys l)) (held .asc))
 
   -- The words are a table.
-  pub cells-table : isTableOf cell 4 m words ≡ true
+  pub cells-table : isTableOf cell netWidth m words ≡ true
   cells-table = cells-both .0
 
   -- Its keys are the cells.
-  pub cells-keys : keys (tableOf cell 4 m words) ≡ l
+  pub cells-keys : keys (tableOf cell netWidth m words) ≡ l
   cells-keys = ap keys (cells-both .1) ∙ net-keys l
 
   -- From row i on stand the cell of row i and the cells behind it.
-  pub cells-at : (i : ℕ) → i < m → drop i l ≡ cellAt words (4 * i) ∷ drop (suc i) l
+  pub cells-at : (i : ℕ) → i < m → drop i l ≡ cellAt words (netWidth * i) ∷ drop (suc i) l
   cells-at i h =
       let c : m ≡ length l = held .count in
-      drop-cons l i (cellAt words (4 * i)) (omega arith)
-      ∙ ap (λ (k : List Cell). getD k i (cellAt words (4 * i)) ∷ drop (suc i) l) (sym cells-keys)
-      ∙ ap (λ (d : Cell). d ∷ drop (suc i) l) (cell-at 4 m words (omega arith) i (cellAt words (4 * i)) h)
+      drop-cons l i (cellAt words (netWidth * i)) (omega arith)
+      ∙ ap (λ (k : List Cell). getD k i (cellAt words (netWidth * i)) ∷ drop (suc i) l) (sym cells-keys)
+      ∙ ap (λ (d : Cell). d ∷ drop (suc i) l) (cell-at netWidth m words (omega arith) i (cellAt words (netWidth * i)) h)
 
   -- The cell of row i is in range.
-  pub cells-ranged : (i : ℕ) → i < m → T (cellInRange (cellAt words (4 * i)))
+  pub cells-ranged : (i : ℕ) → i < m → T (cellInRange (cellAt words (netWidth * i)))
   cells-ranged i h =
-      held .ranged (cellAt words (4 * i))
-      (subst (λ (k : List Cell). Mem (cellAt words (4 * i)) k) (take-append-drop i l)
-      (append-right (take i l) (subst (λ (k : List Cell). Mem (cellAt words (4 * i)) k) (sym (cells-at i h)) (head refl))))
+      held .ranged (cellAt words (netWidth * i))
+      (subst (λ (k : List Cell). Mem (cellAt words (netWidth * i)) k) (take-append-drop i l)
+      (append-right (take i l) (subst (λ (k : List Cell). Mem (cellAt words (netWidth * i)) k) (sym (cells-at i h)) (head refl))))
 
 -- Group records.
 abbrev pub groupTail : Group → List ℕ
 groupTail r = r .grid ∷ r .count ∷ r .low .x ∷ r .low .y ∷ r .low .z ∷ r .high .x ∷ r .high .y ∷ r .high .z ∷ []
 
 module _ (words : List ℕ) (k : ℕ) (l : List (ℕ × Group)) (held : HeldGroups words k l) where
-  groups-both : (isTableOf number 9 k words ≡ true) × (tableOf number 9 k words ≡ each groupRow l)
+  groups-both : (isTableOf number groupWidth k words ≡ true) × (tableOf number groupWidth k words ≡ each groupRow l)
   unfolding groupsImage
   groups-both =
-      image-table number 9 groupRow (λ a. refl) number-lawful (omega arith) words k l (held .image) (held .count)
+      image-table number groupWidth groupRow (λ a. refl) number-lawful (omega arith) words k l (held .image) (held .count)
       (subst (λ (m : List ℕ). Asc ltb m) (sym (through-keys groupTail l)) (held .asc))
 
   -- The words are a table.
-  pub groups-table : isTableOf number 9 k words ≡ true
+  pub groups-table : isTableOf number groupWidth k words ≡ true
   groups-table = groups-both .0
 
   -- Its rows are those of the records.
-  pub groups-rows : tableOf number 9 k words ≡ each groupRow l
+  groups-rows : tableOf number groupWidth k words ≡ each groupRow l
   groups-rows = groups-both .1
 
   -- What is held after a record is put.
-  pub groups-put : (g : ℕ) (v : Group) (r : ℕ) (x : List ℕ) → 9 * suc k ≤ length words
-      → _≡_ {A = ℕ × List ℕ} (r, x) (storedOf number (length words) (put ltb g (groupTail v) (tableOf number 9 k words)))
+  groups-put : (g : ℕ) (v : Group) (r : ℕ) (x : List ℕ) → groupWidth * suc k ≤ length words
+      → _≡_ {A = ℕ × List ℕ} (r, x) (storedOf number (length words) (put ltb g (groupTail v) (tableOf number groupWidth k words)))
       → HeldGroups x r (put ltb g v l)
   unfolding groupsImage
   groups-put g v r x h q =
       let m : List (ℕ × Group) = put ltb g v l in
-      let e : put ltb g (groupTail v) (tableOf number 9 k words) ≡ each groupRow m = ap (put ltb g (groupTail v)) groups-rows ∙ sym (through-put groupTail ltb g v l) in
+      let e : put ltb g (groupTail v) (tableOf number groupWidth k words) ≡ each groupRow m = ap (put ltb g (groupTail v)) groups-rows ∙ sym (through-put groupTail ltb g v l) in
       let n : r ≡ length m = ap (λ (p : ℕ × List ℕ). p .0) q ∙ ap length e ∙ each-length groupRow m in
       let y : x ≡ imageOf number (length words) (each groupRow m) = ap (λ (p : ℕ × List ℕ). p .1) q ∙ ap (imageOf number (length words)) e in
       let c : length m ≤ suc k = omega (arith, put-shorter numbers l g v, held .count) in
-      let f : 9 * length m ≤ length words = omega arith in
-      let z : length x ≡ length words = ap length y ∙ stored-length number 9 groupRow (λ a. refl) number-lawful (omega arith) (length words) m f in
+      let f : groupWidth * length m ≤ length words = omega arith in
+      let z : length x ≡ length words = ap length y ∙ stored-length number groupWidth groupRow (λ a. refl) number-lawful (omega arith) (length words) m f in
       record {
         image = y ∙ ap (λ (len : ℕ). imageOf number len (each groupRow m)) (sym z);
         count = n;
@@ -235,67 +253,67 @@ unfolding groupsImage imageOf
 groups-none words e = let z : length words ≡ length words - 0 = omega arith in record { image = e ∙ ap (λ (m : ℕ). replicate m 0) z; count = refl; asc = Asc.nil; fits = omega arith }
 
 module _ (words : List ℕ) (k : ℕ) (l : List (ℕ × Group)) (held : HeldGroups words k l) (g : ℕ) where
-  groups-get : get eqb (tableOf number 9 k words) g ≡ onSome groupTail (get eqb l g)
+  groups-get : get eqb (tableOf number groupWidth k words) g ≡ onSome groupTail (get eqb l g)
   groups-get = ap (λ (u : List (ℕ × List ℕ)). get eqb u g) (groups-rows words k l held) ∙ through-get groupTail eqb l g
 
   -- A group that is not found has no record.
-  pub group-missing : (i : ℕ) → Missing i ≡ placeOf ltb (keys (tableOf number 9 k words)) g → get eqb l g ≡ none
-  group-missing i e = go (get eqb l g) (sym groups-get ∙ missing-none number number-lawful 9 k words g i (groups-table words k l held) e)
+  pub group-missing : (i : ℕ) → Missing i ≡ placeOf ltb (keys (tableOf number groupWidth k words)) g → get eqb l g ≡ none
+  group-missing i e = go (get eqb l g) (sym groups-get ∙ missing-none number number-lawful groupWidth k words g i (groups-table words k l held) e)
     where
       go : (o : Option Group) → onSome groupTail o ≡ none → o ≡ none
       go none f = refl
       go (some r) f = absurd (none-some f)
 
-  module _ (i : ℕ) (e : Found i ≡ placeOf ltb (keys (tableOf number 9 k words)) g) where
+  module _ (i : ℕ) (e : Found i ≡ placeOf ltb (keys (tableOf number groupWidth k words)) g) where
     -- The row that is found is within the words.
-    pub group-row : (i < k) × (9 * i + 9 ≤ length words)
-    group-row = let h : i < k = found-below number number-lawful 9 k words g i e in let f : 9 * k ≤ length words = held .fits in (h, omega arith)
+    pub group-row : (i < k) × (groupWidth * i + groupWidth ≤ length words)
+    group-row = let h : i < k = found-below number number-lawful groupWidth k words g i e in let f : groupWidth * k ≤ length words = held .fits in (h, omega arith)
 
     -- The row that is found is that of a record.
-    pub group-found : (r : Group) × (get eqb l g ≡ some r) × (drop 1 (getD (rowsOf 9 k words) i []) ≡ groupTail r)
-    group-found = go (get eqb l g) refl (sym (found-rest number number-lawful 9 k words g i (groups-table words k l held) e) ∙ groups-get)
+    pub group-found : (r : Group) × (get eqb l g ≡ some r) × (drop 1 (getD (rowsOf groupWidth k words) i []) ≡ groupTail r)
+    group-found = go (get eqb l g) refl (sym (found-rest number number-lawful groupWidth k words g i (groups-table words k l held) e) ∙ groups-get)
       where
-        go : (o : Option Group) → get eqb l g ≡ o → some (drop 1 (getD (rowsOf 9 k words) i [])) ≡ onSome groupTail o
-            → (r : Group) × (get eqb l g ≡ some r) × (drop 1 (getD (rowsOf 9 k words) i []) ≡ groupTail r)
+        go : (o : Option Group) → get eqb l g ≡ o → some (drop 1 (getD (rowsOf groupWidth k words) i [])) ≡ onSome groupTail o
+            → (r : Group) × (get eqb l g ≡ some r) × (drop 1 (getD (rowsOf groupWidth k words) i []) ≡ groupTail r)
         go none f h = absurd (none-some h)
         go (some r) f h = (r, f, some-inj h)
 
     -- Word j + 1 of the row is word j behind the id of the record.
-    group-word : (j : ℕ) → 1 + j < 9 → getD words (9 * i + (1 + j)) 0 ≡ getD (groupTail (group-found .0)) j 0
-    group-word j h = sym (rest-at 9 k words i 1 j (group-row .0) h) ∙ ap (λ (u : List ℕ). getD u j 0) (group-found .2)
+    group-word : (j : ℕ) → 1 + j < groupWidth → getD words (groupWidth * i + (1 + j)) 0 ≡ getD (groupTail (group-found .0)) j 0
+    group-word j h = sym (rest-at groupWidth k words i 1 j (group-row .0) h) ∙ ap (λ (u : List ℕ). getD u j 0) (group-found .2)
 
     -- Its cell count is below 2^63 where each is.
-    pub group-few : fewCells l → getD words (9 * i + 2) 0 < 9223372036854775808
+    pub group-few : fewCells l → getD words (groupWidth * i + groupCells) 0 < 9223372036854775808
     group-few f =
-        let e : getD words (9 * i + 2) 0 ≡ group-found .0 .count = group-word 1 (omega arith) in
+        let e : getD words (groupWidth * i + groupCells) 0 ≡ group-found .0 .count = group-word 1 (omega arith) in
         let m : group-found .0 .count < 9223372036854775808 = f (g, group-found .0) (at-mem numbers l (record { is = group-found .1 })) in
         omega arith
 
     -- The words of the row with one cell more are those of the grown record.
-    pub group-grown : (c : Cell) → grownWords words (9 * i) c ≡ g ∷ groupTail (grown (get eqb l g) c)
+    pub group-grown : (c : Cell) → grownWords words (groupWidth * i) c ≡ g ∷ groupTail (grown (get eqb l g) c)
     group-grown c =
         let r : Group = group-found .0 in
-        let key : getD words (9 * i) 0 ≡ g =
-        sym (number-at 9 k words (omega arith) i 0 (group-row .0)) ∙ found-is number number-lawful 9 k words g i 0 e in
-        let more : getD words (9 * i + 2) 0 + 1 ≡ suc (r .count) = omega (arith, group-word 1 (omega arith)) in
-        let w : (j : ℕ) → 1 + j < 9 → getD words (9 * i + (1 + j)) 0 ≡ getD (groupTail r) j 0 = group-word in
-        let one : grownWords words (9 * i) c ≡ g ∷ groupTail (grown (some r) c) =
+        let key : getD words (groupWidth * i) 0 ≡ g =
+        sym (number-at groupWidth k words (omega arith) i 0 (group-row .0)) ∙ found-is number number-lawful groupWidth k words g i 0 e in
+        let more : getD words (groupWidth * i + groupCells) 0 + 1 ≡ suc (r .count) = omega (arith, group-word 1 (omega arith)) in
+        let w : (j : ℕ) → 1 + j < groupWidth → getD words (groupWidth * i + (1 + j)) 0 ≡ getD (groupTail r) j 0 = group-word in
+        let one : grownWords words (groupWidth * i) c ≡ g ∷ groupTail (grown (some r) c) =
         (λ t. key t ∷ w 0 (omega arith) t ∷ more t
         ∷ min (w 2 (omega arith) t) (c .x) ∷ min (w 3 (omega arith) t) (c .y) ∷ min (w 4 (omega arith) t) (c .z)
         ∷ max (w 5 (omega arith) t) (c .x) ∷ max (w 6 (omega arith) t) (c .y) ∷ max (w 7 (omega arith) t) (c .z) ∷ []) in
         one ∙ ap (λ (o : Option Group). g ∷ groupTail (grown o c)) (sym (group-found .1))
 
   -- The record of a first cell.
-  pub group-first : (i : ℕ) (c : Cell) → Missing i ≡ placeOf ltb (keys (tableOf number 9 k words)) g
+  pub group-first : (i : ℕ) (c : Cell) → Missing i ≡ placeOf ltb (keys (tableOf number groupWidth k words)) g
       → g ∷ c .grid ∷ 1 ∷ c .x ∷ c .y ∷ c .z ∷ c .x ∷ c .y ∷ c .z ∷ [] ≡ g ∷ groupTail (grown (get eqb l g) c)
   group-first i c e = ap (λ (o : Option Group). g ∷ groupTail (grown o c)) (sym (group-missing i e))
 
-  module _ (c : Cell) (row : List ℕ) (is : row ≡ g ∷ groupTail (grown (get eqb l g) c)) (room : 9 * k + 9 ≤ length words) where
+  module _ (c : Cell) (row : List ℕ) (is : row ≡ g ∷ groupTail (grown (get eqb l g) c)) (room : groupWidth * k + groupWidth ≤ length words) where
     -- A record's row can be put.
     pub count-asks : (isTableOf number (length row) k words ≡ true) × (hasRoomOf number (length row) k words (key1 row) ≡ true)
     count-asks =
         subst (λ (u : List ℕ). (isTableOf number (length u) k words ≡ true) × (hasRoomOf number (length u) k words (key1 u) ≡ true)) (sym is)
-        (groups-table words k l held, room-space number 9 k words g (omega arith))
+        (groups-table words k l held, room-space number groupWidth k words g (omega arith))
 
     -- What is held after the row of a grown record is put.
     pub count-done : (r : ℕ) (x : List ℕ) → _≡_ {A = ℕ × List ℕ} (r, x) (storedOf number (length words) (put ltb (key1 row) (rest1 row) (tableOf number (length row) k words)))

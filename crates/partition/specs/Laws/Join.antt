@@ -1,5 +1,5 @@
 -- Sizes, the largest group and merging, row by row.
-use Prim.Native.Nat.{ℕ, zero, suc, _+_, _-_, _*_, _≤_, _<_}
+use Prim.Native.Nat.{ℕ, zero, suc, _+_, _*_, _≤_, _<_}
 use native.Mathlib.Omega.{arith}
 use native.Mathlib.Numerals.{add-one}
 use mathlib.Core.Path.{_≡_, refl, sym, ap, _∙_, subst}
@@ -18,8 +18,10 @@ use Rattle.model.specs.Laws.Orders.{numbers}
 use Rattle.model.specs.Laws.Tests.{T-true, decided, cond-yes, cond-no}
 use Rattle.model.specs.Laws.Tables.{change-same}
 use Rattle.table.specs.Rows.{cellAt}
-use Rattle.partition.specs.Held.{HeldRows, HeldIds, HeldCells, joined}
-use Rattle.partition.specs.Laws.Held.{ids-at, cells-at}
+use Rattle.layout.specs.Widths.{idWidth, cellId, netWidth}
+use Rattle.partition.specs.Held.{HeldRows, HeldIds, HeldCells, joined, rowIn}
+use Rattle.layout.specs.Rows.{idsIn}
+use Rattle.partition.specs.Laws.Held.{read-length, read-at, ids-at, ids-read, cells-at}
 use Rattle.partition.specs.Laws.Ids.{ids-set}
 
 drop-suc : {A : Type 0} (l : List A) (i : ℕ) → drop (suc i) l ≡ drop 1 (drop i l)
@@ -46,31 +48,34 @@ sized t u g =
     ∙ ap length (each-append (λ (p : Cell × ℕ). p .0) (keep (λ (p : Cell × ℕ). eqb g (p .1)) t) (keep (λ (p : Cell × ℕ). eqb g (p .1)) u))
     ∙ length-append (members t g) (members u g)
 
-module _ (words : List ℕ) (n : ℕ) (t : Ids) (held : HeldRows words n t) (g i : ℕ) (h : i < n) where
-  size-step : size (take (i + 1) t) g ≡ size (take i t) g + size ((cellAt words (5 * i), getD words (5 * i + 4) 0) ∷ []) g
+module _ (words : List ℕ) (n g i : ℕ) (h : i < n) where
+  abbrev rows : Ids
+  rows = idsIn n words
+
+  size-step : size (take (i + 1) rows) g ≡ size (take i rows) g + size (rowIn words i ∷ []) g
   size-step =
-      ap (λ (m : ℕ). size (take m t) g) (add-one i)
-      ∙ ap (λ (u : Ids). size u g) (take-more t i (cellAt words (5 * i), getD words (5 * i + 4) 0) (ids-at words n t held i h))
-      ∙ sized (take i t) ((cellAt words (5 * i), getD words (5 * i + 4) 0) ∷ []) g
+      ap (λ (m : ℕ). size (take m rows) g) (add-one i)
+      ∙ ap (λ (u : Ids). size u g) (take-more rows i (rowIn words i) (read-at words n i h))
+      ∙ sized (take i rows) (rowIn words i ∷ []) g
 
   -- A row of the group is counted.
-  pub size-more : (m : ℕ) → m ≡ size (take i t) g → getD words (5 * i + 4) 0 ≡ g → m + 1 ≡ size (take (i + 1) t) g
+  pub size-more : (m : ℕ) → m ≡ size (take i (idsIn n words)) g → getD words (idWidth * i + cellId) 0 ≡ g → m + 1 ≡ size (take (i + 1) (idsIn n words)) g
   size-more m e f =
       ap (λ (x : ℕ). x + 1) e
-      ∙ ap (λ (b : Bool). size (take i t) g + length (keys (cond b ((cellAt words (5 * i), getD words (5 * i + 4) 0) ∷ []) []))) (sym (eq-eqb g (getD words (5 * i + 4) 0) (sym f)))
+      ∙ ap (λ (b : Bool). size (take i rows) g + length (keys (cond b (rowIn words i ∷ []) []))) (sym (eq-eqb g (getD words (idWidth * i + cellId) 0) (sym f)))
       ∙ sym size-step
 
   -- A row of another group is passed over.
-  pub size-same : (m : ℕ) → m ≡ size (take i t) g → (getD words (5 * i + 4) 0 ≡ g → ⊥) → m ≡ size (take (i + 1) t) g
+  pub size-same : (m : ℕ) → m ≡ size (take i (idsIn n words)) g → (getD words (idWidth * i + cellId) 0 ≡ g → ⊥) → m ≡ size (take (i + 1) (idsIn n words)) g
   size-same m e f =
-      let z : size (take i t) g ≡ size (take i t) g + 0 = omega arith in
+      let z : size (take i rows) g ≡ size (take i rows) g + 0 = omega arith in
       e ∙ z
-      ∙ ap (λ (b : Bool). size (take i t) g + length (keys (cond b ((cellAt words (5 * i), getD words (5 * i + 4) 0) ∷ []) []))) (sym (ne-eqb g (getD words (5 * i + 4) 0) (λ q. f (sym q))))
+      ∙ ap (λ (b : Bool). size (take i rows) g + length (keys (cond b (rowIn words i ∷ []) []))) (sym (ne-eqb g (getD words (idWidth * i + cellId) 0) (λ q. f (sym q))))
       ∙ sym size-step
 
 -- All rows are passed.
-pub size-all : (words : List ℕ) (n : ℕ) (t : Ids) → HeldRows words n t → (g i m : ℕ) → n ≤ i → m ≡ size (take i t) g → m ≡ size t g
-size-all words n t held g i m h e = let c : n ≡ length t = held .count in e ∙ ap (λ (u : Ids). size u g) (take-all i t (omega arith))
+pub size-all : (words : List ℕ) (n g i m : ℕ) → n ≤ i → m ≡ size (take i (idsIn n words)) g → m ≡ size (idsIn n words) g
+size-all words n g i m h e = let c = read-length words n in e ∙ ap (λ (u : Ids). size u g) (take-all i (idsIn n words) (omega arith))
 
 -- The largest of the groups from j on, with the best so far.
 module _ (t : Ids) (found : List ℕ) (k j best : ℕ) (h : j < k) (f : k ≤ length found) where
@@ -120,10 +125,10 @@ module _ (f : Cell → ℕ → ℕ) where
     partly-length = let c : n ≡ length t = held₀ .count in each-length (λ (p : Cell × ℕ). (p .0, f (p .0) (p .1))) (take i t) ∙ length-take-le i t (omega arith)
 
     abbrev old : Cell × ℕ
-    old = (cellAt words₀ (5 * i), getD words₀ (5 * i + 4) 0)
+    old = (rowIn words₀ i)
 
     -- Row i of the words is row i of the table as it was.
-    pub partly-row : _≡_ {A = Cell × ℕ} (cellAt words (5 * i), getD words (5 * i + 4) 0) (cellAt words₀ (5 * i), getD words₀ (5 * i + 4) 0)
+    pub partly-row : _≡_ {A = Cell × ℕ} (rowIn words i) (rowIn words₀ i)
     partly-row =
         let a : drop i (partly t i) ≡ old ∷ drop (suc i) t = drop-at (change f (take i t)) (drop i t) i partly-length ∙ ids-at words₀ n t held₀ i h in
         ap (λ (u : Ids). getD u 0 old) (sym (ids-at words n (partly t i) held i h) ∙ a)
@@ -136,17 +141,17 @@ module _ (f : Cell → ℕ → ℕ) where
         ∙ append-assoc (change f (take i t)) ((old .0, f (old .0) (old .1)) ∷ []) (drop (suc i) t)
 
     -- Row i is changed.
-    pub partly-set : (v : ℕ) → v ≡ f (cellAt words (5 * i)) (getD words (5 * i + 4) 0) → HeldRows (set words (5 * i + 4) v) n (partly t (i + 1))
+    pub partly-set : (v : ℕ) → v ≡ f (cellAt words (idWidth * i)) (getD words (idWidth * i + cellId) 0) → HeldRows (set words (idWidth * i + cellId) v) n (partly t (i + 1))
     partly-set v e =
-        let c = cellAt words (5 * i) in
+        let c = cellAt words (idWidth * i) in
         let a : take i (partly t i) ≡ change f (take i t) = take-at (change f (take i t)) (drop i t) i partly-length in
         let b : drop (suc i) (partly t i) ≡ drop (suc i) t = drop-suc (partly t i) i ∙ ap (drop 1) (drop-at (change f (take i t)) (drop i t) i partly-length) ∙ sym (drop-suc t i) in
         let d : v ≡ f (old .0) (old .1) = e ∙ (λ k. f (partly-row k .0) (partly-row k .1)) in
-        subst (λ (u : Ids). HeldRows (set words (5 * i + 4) v) n u)
+        subst (λ (u : Ids). HeldRows (set words (idWidth * i + cellId) v) n u)
         ((λ k. a k ++ (partly-row k .0, d k) ∷ b k) ∙ sym partly-next) (ids-set words n (partly t i) held i v h)
 
     -- Row i stays as it is.
-    pub partly-same : getD words (5 * i + 4) 0 ≡ f (cellAt words (5 * i)) (getD words (5 * i + 4) 0) → HeldRows words n (partly t (i + 1))
+    pub partly-same : getD words (idWidth * i + cellId) 0 ≡ f (cellAt words (idWidth * i)) (getD words (idWidth * i + cellId) 0) → HeldRows words n (partly t (i + 1))
     partly-same e =
         let d : old .1 ≡ f (old .0) (old .1) = sym (ap (λ (p : Cell × ℕ). p .1) partly-row) ∙ e ∙ (λ k. f (partly-row k .0) (partly-row k .1)) in
         subst (λ (u : Ids). HeldRows words n u)
@@ -164,14 +169,14 @@ module _ (into : ℕ) (l : List ℕ) where
   merged c h = cond (has eqb l h) into h
 
   module _ (words₀ words : List ℕ) (n : ℕ) (t : Ids) (held₀ : HeldRows words₀ n t) (i : ℕ) (h : i < n) (held : HeldRows words n (partly merged t i))
-      (r : Bool) (e : r ≡ has eqb l (getD words (5 * i + 4) 0)) where
+      (r : Bool) (e : r ≡ has eqb l (getD words (idWidth * i + cellId) 0)) where
     -- The group of row i is found.
-    pub merge-set : r ≡ true → HeldRows (set words (5 * i + 4) into) n (partly merged t (i + 1))
-    merge-set y = partly-set merged words₀ words n t held₀ i h held into (ap (λ (b : Bool). cond b into (getD words (5 * i + 4) 0)) (sym y ∙ e))
+    pub merge-set : r ≡ true → HeldRows (set words (idWidth * i + cellId) into) n (partly merged t (i + 1))
+    merge-set y = partly-set merged words₀ words n t held₀ i h held into (ap (λ (b : Bool). cond b into (getD words (idWidth * i + cellId) 0)) (sym y ∙ e))
 
     -- The group of row i is not found.
     pub merge-same : r ≡ false → HeldRows words n (partly merged t (i + 1))
-    merge-same y = partly-same merged words₀ words n t held₀ i h held (ap (λ (b : Bool). cond b into (getD words (5 * i + 4) 0)) (sym y ∙ e))
+    merge-same y = partly-same merged words₀ words n t held₀ i h held (ap (λ (b : Bool). cond b into (getD words (idWidth * i + cellId) 0)) (sym y ∙ e))
 
 -- A cell joins the groups found.
 module _ (t : Ids) (c : Cell) (found : List ℕ) (k : ℕ) (one : 1 ≤ k) where
@@ -179,13 +184,14 @@ module _ (t : Ids) (c : Cell) (found : List ℕ) (k : ℕ) (one : 1 ≤ k) where
   first-found = getD-take k found 0 0 (omega arith)
 
   pub join-done : (words₁ words₂ : List ℕ) (r into : ℕ) → HeldRows words₁ r (put below c (getD found 0 0) t)
-      → into ≡ largestGroup (put below c (getD found 0 0) t) (getD found 0 0) (drop 1 (take k found))
+      → into ≡ largestGroup (idsIn r words₁) (getD found 0 0) (drop 1 (take k found))
       → ((u : Ids) → HeldRows words₁ r u → HeldRows words₂ r (merge into (take k found) u))
       → HeldRows words₂ r (joined t c (take k found))
   unfolding joined
   join-done words₁ words₂ r into h e f =
       subst (λ (u : Ids). HeldRows words₂ r u)
       ((λ i. merge (e i) (take k found) (put below c (getD found 0 0) t))
+      ∙ (λ i. merge (largestGroup (ids-read words₁ r (put below c (getD found 0 0) t) h i) (getD found 0 0) (drop 1 (take k found))) (take k found) (put below c (getD found 0 0) t))
       ∙ (λ i. merge (largestGroup (put below c (sym first-found i) t) (sym first-found i) (drop 1 (take k found))) (take k found) (put below c (sym first-found i) t)))
       (f (put below c (getD found 0 0) t) h)
 
@@ -264,13 +270,13 @@ rule1-some words words₁ n next r s c found k held e z b f =
 -- One newly occupied cell after the other.
 module _ (occupied : List ℕ) (m : ℕ) (l : List Cell) (cells : HeldCells occupied m l) (s : Groups) (i : ℕ) (words : List ℕ) (n next : ℕ)
     (held : HeldIds words n next (run (rule1 touch26) s (take i l))) where
-  pub rules1-more : i < m → (words₁ : List ℕ) (r next₁ : ℕ) (c : Cell) → c ≡ cellAt occupied (4 * i)
+  pub rules1-more : i < m → (words₁ : List ℕ) (r next₁ : ℕ) (c : Cell) → c ≡ cellAt occupied (netWidth * i)
       → ((u : Groups) → HeldIds words n next u → HeldIds words₁ r next₁ (rule1 touch26 u c)) → HeldIds words₁ r next₁ (run (rule1 touch26) s (take (i + 1) l))
   rules1-more h words₁ r next₁ c e f =
-      let a : take (i + 1) l ≡ take i l ++ cellAt occupied (4 * i) ∷ [] = ap (λ (j : ℕ). take j l) (add-one i) ∙ take-more l i (cellAt occupied (4 * i)) (cells-at occupied m l cells i h) in
+      let a : take (i + 1) l ≡ take i l ++ cellAt occupied (netWidth * i) ∷ [] = ap (λ (j : ℕ). take j l) (add-one i) ∙ take-more l i (cellAt occupied (netWidth * i)) (cells-at occupied m l cells i h) in
       subst (λ (u : Groups). HeldIds words₁ r next₁ u)
       (ap (rule1 touch26 (run (rule1 touch26) s (take i l))) e
-      ∙ sym (ap (run (rule1 touch26) s) a ∙ run-append (rule1 touch26) s (take i l) (cellAt occupied (4 * i) ∷ [])))
+      ∙ sym (ap (run (rule1 touch26) s) a ∙ run-append (rule1 touch26) s (take i l) (cellAt occupied (netWidth * i) ∷ [])))
       (f (run (rule1 touch26) s (take i l)) held)
 
   pub rules1-all : m ≤ i → HeldIds words n next (run (rule1 touch26) s l)

@@ -18,7 +18,8 @@ use Rattle.model.specs.Laws.Members.{keep-append, keep-yes, keep-no, each-appen
 use Rattle.model.specs.Laws.Sorted.{Asc, ascending-asc, ascending-length}
 use Rattle.model.specs.Laws.Tables.{keys-length, put-asc, table-same, get-put-self, get-put-other}
 use Rattle.model.specs.Laws.Records.{shownOf, records-get, records-keys}
-use Rattle.partition.specs.Held.{HeldTable, HeldGroups, grown, fewCells}
+use Rattle.layout.specs.Widths.{idWidth, cellId, groupWidth}
+use Rattle.partition.specs.Held.{HeldTable, HeldGroups, grown, fewCells, rowIn}
 use Rattle.partition.specs.Laws.Held.{plain-at}
 use Rattle.table.specs.Rows.{cellAt}
 
@@ -42,11 +43,11 @@ module _ (t : Ids) (c : Cell) (g : ℕ) where
       ∙ each-append (λ (p : Cell × ℕ). p .0) (keep (λ (p : Cell × ℕ). eqb a (p .1)) t) (keep (λ (p : Cell × ℕ). eqb a (p .1)) ((c, g) ∷ []))
 
   -- The group of the last cell has it as its last.
-  pub members-more : members (t ++ (c, g) ∷ []) g ≡ members t g ++ c ∷ []
+  members-more : members (t ++ (c, g) ∷ []) g ≡ members t g ++ c ∷ []
   members-more = members-split g ∙ ap (λ (l : List (Cell × ℕ)). members t g ++ keys l) (keep-yes (λ (p : Cell × ℕ). eqb g (p .1)) (c, g) [] (eqb-refl g))
 
   -- Another group is as it was.
-  pub members-other : (a : ℕ) → (a ≡ g → ⊥) → members (t ++ (c, g) ∷ []) a ≡ members t a
+  members-other : (a : ℕ) → (a ≡ g → ⊥) → members (t ++ (c, g) ∷ []) a ≡ members t a
   members-other a n =
       members-split a
       ∙ ap (λ (l : List (Cell × ℕ)). members t a ++ keys l) (keep-no (λ (p : Cell × ℕ). eqb a (p .1)) (c, g) [] (neqb-of a g n))
@@ -56,7 +57,7 @@ module _ (t : Ids) (c : Cell) (g : ℕ) where
   records-asc u = subst (λ (l : List ℕ). Asc ltb l) (sym (records-keys u)) (ascending-asc numbers (values u))
 
   -- The records of cells with one more at the end are the records of the cells, with that cell's group grown.
-  pub records-more : records (t ++ (c, g) ∷ []) ≡ put ltb g (grown (get eqb (records t) g) c) (records t)
+  records-more : records (t ++ (c, g) ∷ []) ≡ put ltb g (grown (get eqb (records t) g) c) (records t)
   records-more =
       let v : Group = grown (get eqb (records t) g) c in
       table-same numbers (records (t ++ (c, g) ∷ [])) (put ltb g v (records t))
@@ -93,9 +94,9 @@ records-few t h q m =
         let d = keys-length (keep (λ (p : Cell × ℕ). eqb g (p .1)) t) in
         omega (arith, keep-shorter (λ (p : Cell × ℕ). eqb g (p .1)) t)
 
-module _ (words groups : List ℕ) (n k i : ℕ) (t : Ids) (held : HeldTable words n t) (done : HeldGroups groups k (records (take i t))) (h : i < n) (len : 9 * n ≤ length groups) where
+module _ (words groups : List ℕ) (n k i : ℕ) (t : Ids) (held : HeldTable words n t) (done : HeldGroups groups k (records (take i t))) (h : i < n) (len : groupWidth * n ≤ length groups) where
   -- What counting one more cell asks.
-  pub turn-asks : n < 9223372036854775808 → (l : List (ℕ × Group)) × HeldGroups groups k l × fewCells l × (9 * k + 9 ≤ length groups)
+  pub turn-asks : n < 9223372036854775808 → (l : List (ℕ × Group)) × HeldGroups groups k l × fewCells l × (groupWidth * k + groupWidth ≤ length groups)
   turn-asks b =
       let s : length (take i t) ≤ i = omega (arith, length-take i t) in
       let r = records-shorter (take i t) in
@@ -103,11 +104,11 @@ module _ (words groups : List ℕ) (n k i : ℕ) (t : Ids) (held : HeldTable wor
       (records (take i t), done, records-few (take i t) (omega arith), omega arith)
 
   -- What counting one more cell gives.
-  pub turn-done : (r : ℕ) (x : List ℕ) (d : Cell) → d ≡ cellAt words (5 * i)
-      → ((l : List (ℕ × Group)) → HeldGroups groups k l → HeldGroups x r (put ltb (getD words (5 * i + 4) 0) (grown (get eqb l (getD words (5 * i + 4) 0)) d) l))
+  pub turn-done : (r : ℕ) (x : List ℕ) (d : Cell) → d ≡ cellAt words (idWidth * i)
+      → ((l : List (ℕ × Group)) → HeldGroups groups k l → HeldGroups x r (put ltb (getD words (idWidth * i + cellId) 0) (grown (get eqb l (getD words (idWidth * i + cellId) 0)) d) l))
       → HeldGroups x r (records (take (i + 1) t))
   turn-done r x a b f =
-      let p : Cell × ℕ = (cellAt words (5 * i), getD words (5 * i + 4) 0) in
+      let p : Cell × ℕ = (rowIn words i) in
       let c : n ≡ length t = held .count in
       let d : _≡_ {A = List (Cell × ℕ)} (getD t i p ∷ drop (suc i) t) (p ∷ drop (suc i) t) = sym (drop-cons t i p (omega arith)) ∙ plain-at words n t held i h in
       let e : getD t i p ≡ p = ap (λ (l : List (Cell × ℕ)). getD l 0 p) d in

@@ -2,17 +2,14 @@ use lib.ListN.{drop}
 use mathlib.Core.Bool.{not, _||_}
 use borrow.Author.Tests.{eq-eqb, ne-eqb, not-true, not-false}
 use Rattle.model.specs.Lists.{all, count}
-use Rattle.scans.specs.Laws.Scans.{all-no, all-next, all-end}
+use Rattle.points_check.specs.Laws.Lines.{all-no, all-next, all-end}
 use Rattle.parts_check.specs.Agree.{agreeAt, firstAgrees}
-use Rattle.parts_check.specs.Laws.Agreement.{counted-lines}
+use Rattle.points_check.specs.Laws.Lines.{counted-lines}
 use Prim.Native.Nat.{_-_}
 use mathlib.Core.Path.{_≡_, refl, sym, _∙_}
 use borrow.Author.Needs.{needs}
 use Rattle.parts_check.proofs.firsts_agree.Statement.{statement}
 use Rattle.parts_check.proofs.firsts_agree.Tie as tie
-use Rattle.parts_check.proofs.firsts_agree.Reads as reads
-use Rattle.parts_check.proofs.firsts_agree.Lts as lts
-use Rattle.parts_check.proofs.row_agrees.Reads as row-agrees-reads
 
 abbrev Inv-loop : tie.InvT-loop
 Inv-loop ids m marks i₀ i = all (firstAgrees ids m marks) (count 0 m) ≡ all (firstAgrees ids m marks) (drop i (count 0 m))

@@ -1,7 +1,7 @@
 use lib.ListN.{length}
 use mathlib.Core.List.{List}
 use Rattle.model.specs.Cells.{Cell}
-use Rattle.map.specs.Standing.{Cells}
+use Rattle.neighbourhood.specs.Standing.{Cells}
 use Rattle.parts_check.specs.Parts.{Labelled}
 use Rattle.parts_check.specs.Laws.Parts.{labels-start, labels-skip, labels-asks, labels-flood}
 use Prim.Native.Nat.{ℕ, _+_, _-_, _≤_, _<_}
@@ -10,9 +10,6 @@ use mathlib.Core.Path.{_≡_, refl, _∙_, subst}
 use borrow.Author.Needs.{needs}
 use Rattle.parts_check.proofs.mark_parts.Statement.{statement}
 use Rattle.parts_check.proofs.mark_parts.Tie as tie
-use Rattle.parts_check.proofs.mark_parts.Reads as reads
-use Rattle.parts_check.proofs.mark_parts.Lts as lts
-use Rattle.map.proofs.flood_rows.Reads as flood-rows-reads
 
 abbrev Inv-loop : tie.InvT-loop
 Inv-loop cells m marks₀ queue₀ i₀ marks queue i =

@@ -1,13 +1,11 @@
 use Rattle.parts_check.specs.Laws.Agreement.{agreement, unmarked}
 use Prim.Native.Nat.{_-_}
+use Rattle.model.specs.Update.{mostCells}
+use Rattle.neighbourhood.specs.Laws.Reads.{cells-keys}
 use mathlib.Core.Path.{_∙_}
 use borrow.Author.Needs.{needs}
 use Rattle.parts_check.proofs.parts_right.Statement.{statement}
 use Rattle.parts_check.proofs.parts_right.Tie as tie
-use Rattle.parts_check.proofs.parts_right.Reads as reads
-use Rattle.parts_check.proofs.parts_right.Lts as lts
-use Rattle.parts_check.proofs.firsts_agree.Reads as firsts-agree-reads
-use Rattle.parts_check.proofs.mark_parts.Reads as mark-parts-reads
 
 slice-aggregate-mark-parts : tie.Need-slice-aggregate-mark-parts
 slice-aggregate-mark-parts c = search needs
@@ -16,7 +14,7 @@ slice-aggregate-mark-parts-2 : tie.Need-slice-aggregate-mark-parts-2
 slice-aggregate-mark-parts-2 c = search needs
 
 mark-parts-requires : tie.Need-mark-parts-requires
-mark-parts-requires c κs = let s = c .before .before .before .before in unmarked (s .args .cells .now) (s .args .m) 1024 (s .pre .0) (s .pre .2)
+mark-parts-requires c κs = let s = c .before .before .before .before in unmarked (s .args .cells .now) (s .args .m) mostCells (s .pre .0) (s .pre .3)
 
 slice-aggregate-firsts-agree : tie.Need-slice-aggregate-firsts-agree
 slice-aggregate-firsts-agree c = search needs
@@ -27,7 +25,10 @@ firsts-agree-requires c κs = search needs
 returns : tie.Need-returns
 returns c =
     let s = c .before .before .before .before .before .before .before .before .before in
-    λ t k e. c .firsts-agree .ensures ∙ agreement (s .args .cells .now) (s .args .m) t k (s .args .ids .now) _ e (c .before .before .before .before .mark-parts .ensures t k)
+    let k = s .pre .0 in
+    c .firsts-agree .ensures
+    ∙ agreement (s .args .cells .now) (s .args .m) (k .table) (k .cells) (s .args .ids .now) _ (s .pre .1 ∙ cells-keys (s .args .cells .now) (s .args .m) (k .table) (k .cells))
+    (c .before .before .before .before .mark-parts .ensures (k .table) (k .cells))
 
 pub parts-right-spec : {M : Type 1} → statement M
 parts-right-spec =

@@ -1,16 +1,15 @@
 use lib.ListN.{drop, getD}
 use lib.Dec.{eqb}
 use Rattle.model.specs.Lists.{all, count}
-use Rattle.scans.specs.Laws.Scans.{all-no, all-next, all-end}
+use Rattle.points_check.specs.Laws.Lines.{all-no, all-next, all-end}
 use Rattle.parts_check.specs.Agree.{agreeAt, idAt}
-use Rattle.parts_check.specs.Laws.Agreement.{agreed, disagreed, counted-lines}
+use Rattle.points_check.specs.Laws.Lines.{counted-lines}
+use Rattle.parts_check.specs.Laws.Agreement.{agreed, disagreed}
 use Prim.Native.Nat.{_-_}
 use mathlib.Core.Path.{_≡_, refl, sym, _∙_}
 use borrow.Author.Needs.{needs}
 use Rattle.parts_check.proofs.row_agrees.Statement.{statement}
 use Rattle.parts_check.proofs.row_agrees.Tie as tie
-use Rattle.parts_check.proofs.row_agrees.Reads as reads
-use Rattle.parts_check.proofs.row_agrees.Lts as lts
 
 abbrev Inv-loop : tie.InvT-loop
 Inv-loop ids m marks i j₀ j = all (agreeAt ids marks i) (count 0 m) ≡ all (agreeAt ids marks i) (drop j (count 0 m))

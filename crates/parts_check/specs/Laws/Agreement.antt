@@ -16,17 +16,17 @@ use Rattle.model.specs.Laws.Tests.{same-test, eqb-of, or-cases, or-right}
 use Rattle.model.specs.Laws.Members.{all-in, all-out, count-in, count-out}
 use Rattle.model.specs.Laws.Shared.{Shared, sharedIn, shared-in, shared-out, agree-in, agree-out}
 use Rattle.model.specs.Laws.Touching.{touching-26}
-use Rattle.map.specs.Laws.Lines.{getD-mem, mem-getD}
-use Rattle.map.specs.Rows.{rowCell}
-use Rattle.map.specs.Standing.{Cells, Stands}
-use Rattle.map.specs.Laws.Listing.{count-there}
-use Rattle.map.specs.Laws.Reads as flooded
+use Rattle.neighbourhood.specs.Laws.Lines.{getD-mem, mem-getD}
+use Rattle.neighbourhood.specs.Rows.{rowCell}
+use Rattle.neighbourhood.specs.Standing.{Cells, HasTable}
+use Rattle.neighbourhood.specs.Laws.Reads as flooded
 use Rattle.table.specs.Rows.{cell, cellAt, table4}
 use Rattle.table.specs.Laws.Words.{word-at, rest-at}
 use Rattle.layout.specs.Rows.{idOf, idsIn}
-use Rattle.scans.specs.Scans.{Lines}
-use Rattle.scans.specs.Laws.Scans.{lines-of, lines-at, lines-as, lines-each}
-use Rattle.scans.specs.Laws.Readings.{row-lines, key-lines, ids-keys}
+use Rattle.points_check.specs.Lines.{Lines}
+use Rattle.points_check.specs.Laws.Lines.{lines-of, lines-at, lines-as, lines-each}
+use Rattle.points_check.specs.Laws.Readings.{row-lines, key-lines, ids-keys}
+use Rattle.layout.specs.Widths.{cellWidth, idWidth, cellId}
 use Rattle.parts_check.specs.Agree.{idAt, agreeAt, firstAgrees, Partable}
 use Rattle.parts_check.specs.Parts.{Linked, Labelled}
 use Rattle.parts_check.specs.Laws.Parts.{label-of, linked-same, same-linked, first-marked}
@@ -44,10 +44,6 @@ disagreed true false e = refl
 disagreed false true e = refl
 disagreed false false e = sym e
 
--- The numbers from 0 on, one by one.
-pub counted-lines : (n : ℕ) → Lines (count 0 n) n (λ i. i)
-counted-lines n = lines-of (count 0 n) 0 (Rattle.model.specs.Laws.Members.count-length 0 n) (λ i h. count-there n i 0 h)
-
 -- A member by its number.
 lines-mem : {A : Type 0} {l : List A} {n : ℕ} {at : ℕ → A} → Lines l n at → (i : ℕ) → i < n → Mem (at i) l
 lines-mem {l} {n} {at} r i h = let e : length l ≡ n = r .len in subst (λ x. Mem x l) (lines-at r i h (at i)) (getD-mem l i (at i) (omega arith))
@@ -61,19 +57,19 @@ mem-lines {l} {n} {at} r {a} m =
     (q .0, h, sym (q .2) ∙ lines-at r (q .0) h a)
 
 -- Each row of ids is its cell and its id.
-id-rows : (m : ℕ) (s : List ℕ) → Lines (idsIn m s) m (λ i. (cellAt s (5 * i), idAt s i))
+id-rows : (m : ℕ) (s : List ℕ) → Lines (idsIn m s) m (λ i. (cellAt s (idWidth * i), idAt s i))
 unfolding idsIn
 id-rows m s =
-    lines-as (lines-each idOf (row-lines cell 5 m s)) (λ i h.
-    let e : 5 * i + 0 ≡ 5 * i = omega arith in
-    let g = word-at 5 m s i 0 h (omega arith) ∙ ap (λ k. getD s k 0) e in
-    let z = word-at 5 m s i 1 h (omega arith) in
-    let y = word-at 5 m s i 2 h (omega arith) in
-    let x = word-at 5 m s i 3 h (omega arith) in
-    let v = rest-at 5 m s i 4 0 h (omega arith) in
+    lines-as (lines-each idOf (row-lines cell idWidth m s)) (λ i h.
+    let e : idWidth * i + 0 ≡ idWidth * i = omega arith in
+    let g = word-at idWidth m s i 0 h (omega arith) ∙ ap (λ k. getD s k 0) e in
+    let z = word-at idWidth m s i 1 h (omega arith) in
+    let y = word-at idWidth m s i 2 h (omega arith) in
+    let x = word-at idWidth m s i 3 h (omega arith) in
+    let v = rest-at idWidth m s i cellId 0 h (omega arith) in
     λ t. (record { grid = g t; z = z t; y = y t; x = x t }, v t))
 
-module _ (words : List ℕ) (m : ℕ) (t : List (Cell × ℕ)) (k : Cells words m t) (ids marks : List ℕ) (same-keys : keys (table4 5 m ids) ≡ keys t) (d : Labelled words m t m marks) where
+module _ (words : List ℕ) (m : ℕ) (t : List (Cell × ℕ)) (k : Cells words m t) (ids marks : List ℕ) (same-keys : keys (table4 idWidth m ids) ≡ keys t) (d : Labelled words m t m marks) where
   abbrev rows : Ids
   rows = idsIn m ids
 
@@ -81,23 +77,23 @@ module _ (words : List ℕ) (m : ℕ) (t : List (Cell × ℕ)) (k : Cells words 
   rows-keys = ids-keys m ids ∙ same-keys
 
   -- The cell of a row of ids is the cell of that row.
-  row-is : (j : ℕ) → j < m → cellAt ids (5 * j) ≡ rowCell words j
+  row-is : (j : ℕ) → j < m → cellAt ids (idWidth * j) ≡ rowCell words j
   unfolding rowCell
   row-is j h =
       let o : Cell = record { grid = 0; z = 0; y = 0; x = 0 } in
-      sym (lines-at (key-lines 5 m ids (omega arith)) j h o)
+      sym (lines-at (key-lines idWidth m ids (omega arith)) j h o)
       ∙ ap (λ (l : List Cell). getD l j o) (same-keys ∙ sym (flooded.cells-keys words m t k))
-      ∙ lines-at (key-lines 5 m words (omega arith)) j h o
+      ∙ lines-at (key-lines cellWidth m words (omega arith)) j h o
 
   -- A path of cells with an id is a path of occupied cells.
-  path-in : (i j : ℕ) → i < m → j < m → Joined touch26 (keys rows) (cellAt ids (5 * i)) (cellAt ids (5 * j)) → Linked words t i j
+  path-in : (i j : ℕ) → i < m → j < m → Joined touch26 (keys rows) (cellAt ids (idWidth * i)) (cellAt ids (idWidth * j)) → Linked words t i j
   path-in i j h g w =
       subst₂ (λ (a b : Cell). Joined touch26 (keys t) a b) (row-is i h) (row-is j g)
-      (subst (λ (l : List Cell). Joined touch26 l (cellAt ids (5 * i)) (cellAt ids (5 * j))) rows-keys w)
+      (subst (λ (l : List Cell). Joined touch26 l (cellAt ids (idWidth * i)) (cellAt ids (idWidth * j))) rows-keys w)
 
-  path-out : (i j : ℕ) → i < m → j < m → Linked words t i j → Joined touch26 (keys rows) (cellAt ids (5 * i)) (cellAt ids (5 * j))
+  path-out : (i j : ℕ) → i < m → j < m → Linked words t i j → Joined touch26 (keys rows) (cellAt ids (idWidth * i)) (cellAt ids (idWidth * j))
   path-out i j h g w =
-      subst (λ (l : List Cell). Joined touch26 l (cellAt ids (5 * i)) (cellAt ids (5 * j))) (sym rows-keys)
+      subst (λ (l : List Cell). Joined touch26 l (cellAt ids (idWidth * i)) (cellAt ids (idWidth * j))) (sym rows-keys)
       (subst₂ (λ (a b : Cell). Joined touch26 (keys t) a b) (sym (row-is i h)) (sym (row-is j g)) w)
 
   abbrev firsts-agree : Bool
@@ -145,7 +141,7 @@ module _ (words : List ℕ) (m : ℕ) (t : List (Cell × ℕ)) (k : Cells words 
       all-in (firstAgrees ids m marks) (count 0 m) (λ i x. let h : i < m = let r = count-out 0 m x in let b = r .1 in omega arith in
       or-right (not (eqb (getD marks i 0) (i + 1))) (all (agreeAt ids marks i) (count 0 m))
       (all-in (agreeAt ids marks i) (count 0 m) (λ j y. let g : j < m = let r = count-out 0 m y in let b = r .1 in omega arith in
-      let q = s (cellAt ids (5 * i), idAt ids i) (cellAt ids (5 * j), idAt ids j) (lines-mem (id-rows m ids) i h) (lines-mem (id-rows m ids) j g) in
+      let q = s (cellAt ids (idWidth * i), idAt ids i) (cellAt ids (idWidth * j), idAt ids j) (lines-mem (id-rows m ids) i h) (lines-mem (id-rows m ids) j g) in
       agree-in (eqb (idAt ids i) (idAt ids j)) (eqb (getD marks i 0) (getD marks j 0))
       (λ u. eqb-of (getD marks i 0) (getD marks j 0) (linked-same words m t k m marks (omega arith) d i j h g (path-in i j h g (q .0 (eqb→eq (idAt ids i) (idAt ids j) u)))))
       (λ u. eqb-of (idAt ids i) (idAt ids j) (q .1 (path-out i j h g (same-linked words m t k m marks (omega arith) d i j h g (eqb→eq (getD marks i 0) (getD marks j 0) u))))))))
@@ -158,7 +154,7 @@ module _ (words : List ℕ) (m : ℕ) (t : List (Cell × ℕ)) (k : Cells words 
       (λ u. shared-agree (shared-out touch26 (touching-26 .flip) rows u))
 
 -- Marks and a queue that are not set.
-pub unmarked : (words : List ℕ) (n len : ℕ) → Stands words n → n ≤ len → Partable words n (replicate len 0) (replicate len 0)
+pub unmarked : (words : List ℕ) (n len : ℕ) → HasTable words n → n ≤ len → Partable words n (replicate len 0) (replicate len 0)
 unmarked words n len s h =
     let l = length-replicate {A = ℕ} len 0 in
     record { stands = s; marksFit = omega arith; queueFits = omega arith; clear = λ j i. getD-replicate len j 0 0 (omega arith) }

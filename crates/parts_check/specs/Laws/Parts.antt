@@ -17,10 +17,10 @@ use Rattle.model.specs.Laws.Members.{each-out, has-of, of-has, without-in, with
 use Rattle.model.specs.Laws.Touching.{touching-26}
 use Rattle.model.specs.Laws.Walks.{wider, join, back, part-path, part-of-path}
 use Rattle.model.specs.Laws.Reaching.{flood-part}
-use Rattle.map.specs.Rows.{rowCell}
-use Rattle.map.specs.Standing.{Cells, openCells, floodFrom, Floodable}
-use Rattle.map.specs.Laws.Reads.{row-occupied}
-use Rattle.map.specs.Laws.Unmarked.{counted-under, rows-keys, open-once, open-in, open-out}
+use Rattle.neighbourhood.specs.Rows.{rowCell}
+use Rattle.neighbourhood.specs.Standing.{Cells, openCells, floodFrom, Floodable}
+use Rattle.neighbourhood.specs.Laws.Reads.{row-occupied}
+use Rattle.neighbourhood.specs.Laws.Unmarked.{counted-under, rows-keys, open-once, open-in, open-out}
 use Rattle.parts_check.specs.Parts.{Linked, Labelled}
 
 module _ (words : List ℕ) (n : ℕ) (t : List (Cell × ℕ)) (k : Cells words n t) where

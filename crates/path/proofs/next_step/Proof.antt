@@ -7,8 +7,9 @@ use lib.ListN.{length}
 use borrow.Author.Needs.{needs}
 use borrow.Author.Tests.{eq-eqb, ne-eqb}
 use Rattle.model.specs.Masks.{bit}
-use Rattle.map.specs.Rows.{rowMask}
-use Rattle.map.specs.Laws.Reads.{cells-table, row-bit, row-lead}
+use Rattle.neighbourhood.specs.Rows.{rowMask}
+use Rattle.neighbourhood.specs.Laws.Reads.{cells-table, row-bit, row-lead}
+use Rattle.layout.specs.Widths.{cellWidth}
 use Rattle.path.specs.Walks.{nextRow}
 use Rattle.path.specs.Laws.Stepping.{nextFrom, next-start, next-end, next-unset, next-found, next-passed}
 use Rattle.path.proofs.next_step.Statement.{statement}
@@ -21,7 +22,7 @@ abbrev μ-loop : tie.MeasureT-loop
 μ-loop cells n marks i m nearer near₀ k₀ near k = 26 - k
 
 -- The row stands within the words, and has a mark.
-inside : (s : tie.Start Inv-loop μ-loop) → (5 * s .args .i + 5 ≤ length (s .args .cells .now)) × (s .args .i < length (s .args .marks .now))
+inside : (s : tie.Start Inv-loop μ-loop) → (cellWidth * s .args .i + cellWidth ≤ length (s .args .cells .now)) × (s .args .i < length (s .args .marks .now))
 inside s = let h = s .pre .there in (omega (arith, s .pre .stands .cells .fits), omega (arith, s .pre .fits))
 
 abbrev start : tie.At-loop Inv-loop μ-loop → tie.Start Inv-loop μ-loop

@@ -6,9 +6,10 @@ use mathlib.Core.List.{List}
 use lib.ListN.{length, take, getD}
 use borrow.Author.Needs.{needs}
 use Rattle.model.specs.Cells.{Cell}
-use Rattle.map.specs.Rows.{rowCell}
-use Rattle.map.specs.Answers.{filled}
-use Rattle.map.specs.Laws.Filling.{filled-none, filling-kept, filling-step, filling-end}
+use Rattle.neighbourhood.specs.Rows.{rowCell}
+use Rattle.neighbourhood.specs.Answers.{filled}
+use Rattle.neighbourhood.specs.Laws.Filling.{filled-none, filling-kept, filling-step, filling-end}
+use Rattle.layout.specs.Widths.{cellWidth}
 use Rattle.path.specs.Walks.{nextRow, rowAfter, walkCells}
 use Rattle.path.specs.Laws.Walking.{walk-count, walk-at, after-none, after-more, after-there, after-mark, shown-cells}
 use Rattle.path.proofs.path_into.Statement.{statement}
@@ -44,7 +45,7 @@ there l =
     omega (arith, l .loop .inv .1, after-there (s .args .cells .now) (s .args .n) (s .pre .1 .stands .table) (s .pre .1 .stands .cells) (s .args .marks .now) (l .loop .k) (s .args .from) (s .pre .1 .starts))
 
 -- It stands within the words.
-row : (l : tie.At-loop Inv-loop μ-loop) → 5 * l .loop .i + 5 ≤ length (start l .args .cells .now)
+row : (l : tie.At-loop Inv-loop μ-loop) → cellWidth * l .loop .i + cellWidth ≤ length (start l .args .cells .now)
 row l = omega (arith, there l, start l .pre .1 .stands .cells .fits)
 
 -- It is marked.

@@ -1,5 +1,6 @@
 -- The wave leaves the distances, and the walk goes by them.
 use borrow.Author.Needs.{needs}
+use Rattle.model.specs.Update.{mostCells}
 use Rattle.path.specs.Laws.Waves.{wave-asks, wave-levels, walk-asks}
 use Rattle.path.proofs.path_rows.Statement.{statement}
 use Rattle.path.proofs.path_rows.Tie as tie
@@ -13,7 +14,7 @@ slice-aggregate-flood-rows-2 c = search needs
 flood-rows-requires : tie.Need-flood-rows-requires
 flood-rows-requires c κs =
     let s = c .before .before .before .before in
-    wave-asks (s .args .cells .now) (s .args .n) (s .args .to) (s .pre .0) (s .pre .2) 1024 (s .pre .3) (s .pre .3)
+    wave-asks (s .args .cells .now) (s .args .n) (s .args .to) (s .pre .0) (s .pre .2) mostCells (s .pre .3) (s .pre .3)
 
 slice-aggregate-path-into : tie.Need-slice-aggregate-path-into
 slice-aggregate-path-into c = search needs
@@ -22,7 +23,7 @@ path-into-requires : tie.Need-path-into-requires
 path-into-requires c κs =
     let w = c .before .before .before .before in
     let s = w .before .before .before .before .before in
-    (s .args .to, walk-asks (s .args .cells .now) (s .args .n) (s .args .to) (s .pre .0) (s .pre .2) 1024 (s .pre .3) _ _ _ (w .flood-rows .ensures) (s .args .from) (s .args .answer .now) (s .pre .1) (s .pre .4))
+    (s .args .to, walk-asks (s .args .cells .now) (s .args .n) (s .args .to) (s .pre .0) (s .pre .2) mostCells (s .pre .3) _ _ _ (w .flood-rows .ensures) (s .args .from) (s .args .answer .now) (s .pre .1) (s .pre .4))
 
 same-length : tie.Need-same-length
 same-length c = search needs
@@ -32,7 +33,7 @@ returns c =
     let p = c .before .before in
     let w = p .before .before .before .before .before in
     let s = w .before .before .before .before .before in
-    λ t k. p .path-into .ensures t k (s .args .to) (s .pre .2) (wave-levels (s .args .cells .now) (s .args .n) (s .args .to) (s .pre .0) (s .pre .2) 1024 (s .pre .3) _ _ _ (w .flood-rows .ensures))
+    λ t k. p .path-into .ensures t k (s .args .to) (s .pre .2) (wave-levels (s .args .cells .now) (s .args .n) (s .args .to) (s .pre .0) (s .pre .2) mostCells (s .pre .3) _ _ _ (w .flood-rows .ensures))
 
 pub path-rows-spec : {M : Type 1} → statement M
 path-rows-spec =

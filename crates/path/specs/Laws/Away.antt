@@ -12,9 +12,9 @@ use Rattle.model.specs.Laws.Orders.{cells}
 use Rattle.model.specs.Laws.Members.{keep-in, keep-out, each-in, each-out}
 use Rattle.model.specs.Laws.Touching.{touching-26}
 use Rattle.model.specs.Laws.Steps.{steps-occupied, steps-none, steps-more, steps-less, StepsAway}
-use Rattle.map.specs.Rows.{rowCell, rowFor, onward}
-use Rattle.map.specs.Standing.{Cells, Levels}
-use Rattle.map.specs.Laws.Reads.{row-occupied, row-once, row-for, onward-cells, onward-under}
+use Rattle.neighbourhood.specs.Rows.{rowCell, rowFor, onward}
+use Rattle.neighbourhood.specs.Standing.{Cells, Levels}
+use Rattle.neighbourhood.specs.Laws.Reads.{row-occupied, row-once, row-for, onward-cells, onward-under}
 
 module _ (words : List ℕ) (n : ℕ) (t : List (Cell × ℕ)) (k : Cells words n t) where
   -- A row that row i leads to has a cell that touches the cell of row i.

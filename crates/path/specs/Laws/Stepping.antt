@@ -5,8 +5,8 @@ use mathlib.Core.Bool.{Bool, true, false, cond}
 use mathlib.Core.List.{List, _∷_}
 use Rattle.model.specs.Lists.{keep}
 use Rattle.model.specs.Masks.{bit}
-use Rattle.map.specs.Rows.{rowMask, rowNear, rowFor, onwardFrom}
-use Rattle.map.specs.Laws.Listing.{onward-all, onward-none, onward-yes, onward-no}
+use Rattle.neighbourhood.specs.Rows.{rowMask, rowNear, rowFor, onwardFrom}
+use Rattle.neighbourhood.specs.Laws.Listing.{onward-all, onward-none, onward-yes, onward-no}
 use Rattle.path.specs.Walks.{firstRow, isNearer, nextRow}
 
 module _ (words : List ℕ) (n : ℕ) (marks : List ℕ) (i : ℕ) where

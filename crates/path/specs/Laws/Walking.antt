@@ -20,10 +20,10 @@ use Rattle.model.specs.Laws.Sorted.{keep-asc, asc-equal}
 use Rattle.model.specs.Laws.Touching.{touching-26}
 use Rattle.model.specs.Laws.Steps.{steps-occupied, steps-asc, walk-length, joined-steps, away-number, away-once, StepsAway}
 use Rattle.model.specs.Theorems.PathExact.{path-none}
-use Rattle.map.specs.Rows.{rowCell, onward}
-use Rattle.map.specs.Standing.{Cells, Levels}
-use Rattle.map.specs.Laws.Lines.{each-at}
-use Rattle.map.specs.Laws.Reads.{onward-cells, onward-under}
+use Rattle.neighbourhood.specs.Rows.{rowCell, onward}
+use Rattle.neighbourhood.specs.Standing.{Cells, Levels}
+use Rattle.neighbourhood.specs.Laws.Lines.{each-at}
+use Rattle.neighbourhood.specs.Laws.Reads.{onward-cells, onward-under}
 use Rattle.path.specs.Walks.{firstRow, isNearer, nextRow, rowAfter, walkRows, walkCells, cellsOf, shownRows}
 use Rattle.path.specs.Laws.Away.{onward-touch, touch-onward, mark-steps, steps-mark, mark-away}
 

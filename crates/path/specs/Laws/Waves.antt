@@ -4,16 +4,18 @@ use native.Mathlib.Omega.{arith}
 use mathlib.Core.Path.{_≡_, refl}
 use mathlib.Core.List.{List}
 use lib.ListN.{length, getD, replicate, length-replicate, getD-replicate}
-use Rattle.map.specs.Standing.{Stands, Floodable, Levels, Flooded}
+use Rattle.model.specs.Update.{mostCells}
+use Rattle.neighbourhood.specs.Standing.{HasTable, Floodable, Levels, Flooded}
+use Rattle.layout.specs.Widths.{answerWidth}
 use Rattle.path.specs.Walks.{Walkable}
 
-module _ (words : List ℕ) (n to : ℕ) (s : Stands words n) (h : to < n) (m : ℕ) (g : n ≤ m) where
+module _ (words : List ℕ) (n to : ℕ) (s : HasTable words n) (h : to < n) (m : ℕ) (g : n ≤ m) where
   -- Of some zeros each is 0.
   clear : (j : ℕ) → j < n → getD {A = ℕ} (replicate m 0) j 0 ≡ 0
   clear j f = getD-replicate m j 0 0 (omega arith)
 
   -- A wave can begin with no row marked.
-  pub wave-asks : n ≤ 1024 → Floodable words n to 1 1 (replicate m 0) (replicate m 0)
+  pub wave-asks : n ≤ mostCells → Floodable words n to 1 1 (replicate m 0) (replicate m 0)
   wave-asks f =
       record {
         table = s .table;
@@ -32,7 +34,7 @@ module _ (words : List ℕ) (n to : ℕ) (s : Stands words n) (h : to < n) (m : 
     wave-levels = w .levels refl refl clear
 
     -- The walk can be taken then, into space for as many cells as there are rows.
-    pub walk-asks : (from : ℕ) (answer : List ℕ) → from < n → 4 * n ≤ length answer → Walkable words n marks from to answer
+    pub walk-asks : (from : ℕ) (answer : List ℕ) → from < n → answerWidth * n ≤ length answer → Walkable words n marks from to answer
     walk-asks from answer f e =
         record {
           stands = s;

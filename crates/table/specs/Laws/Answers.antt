@@ -25,10 +25,6 @@ module _ {K : Type 0} (kind : Kind K) (laws : Lawful kind) (w n : ℕ) (s : List
   pub found-below : Found i ≡ placeOf (kind .less) (keys (tableOf kind w n s)) k → i < n
   found-below e = omega (arith, found-within (kind .less) k (keys (tableOf kind w n s)) i e, keys-length kind w n s)
 
-  -- A key that is missing goes in before one of the rows or behind them.
-  pub missing-below : Missing i ≡ placeOf (kind .less) (keys (tableOf kind w n s)) k → i ≤ n
-  missing-below e = omega (arith, missing-within (kind .less) k (keys (tableOf kind w n s)) i e, keys-length kind w n s)
-
   -- The key of the row that is found is the key.
   pub found-is : (d : K) → Found i ≡ placeOf (kind .less) (keys (tableOf kind w n s)) k → getD (keys (tableOf kind w n s)) i d ≡ k
   found-is d e = found-key (laws .order) k d (keys (tableOf kind w n s)) i e

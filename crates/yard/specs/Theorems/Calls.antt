@@ -12,12 +12,14 @@ use Rattle.model.specs.Update.{State, update}
 use Rattle.model.specs.Consistent.{consistent}
 use Rattle.model.specs.Laws.Touching.{touching-26}
 use Rattle.model.specs.Theorems.StaysConsistent.{consistent-update}
+use Rattle.layout.specs.Widths.{moveWidth}
 use Rattle.layout.specs.State.{stateLen, encode, decode}
 use Rattle.layout.specs.Points.{longEnough, consistentWords}
 use Rattle.layout.specs.Theorems.DecodeEncode.{decode-longer}
 use Rattle.layout.specs.Theorems.Canonical.{consistent-image, image-consistent}
 use Rattle.batch.specs.Words.{batchOf, tooShort}
-use Rattle.yard.specs.Update.{done, updateOf}
+use Rattle.updating.specs.Done.{done}
+use Rattle.yard.specs.Update.{updateOf}
 
 -- What a call that is done leaves: the update of the model is done too, and the words begin with the image of the state after it, which is consistent.
 pub record Done (w b : List ℕ) (removals moves : ℕ) : Type 0 where
@@ -41,7 +43,7 @@ module _ (w b : List ℕ) (removals moves : ℕ) where
   unfolding updateOf done
   answer-is = refl
 
-  -- A number that is not 0 leaves the words as found.
+  -- A number that is not 0 leaves the words.
   left : (s c : Bool) → (answer s c .0 ≡ 0 → ⊥) → answer s c .1 ≡ w
   left true c f = refl
   left false false f = refl
@@ -51,8 +53,9 @@ module _ (w b : List ℕ) (removals moves : ℕ) where
       go true e = absurd (f (eqb-true (after .0) 0 e))
       go false e = refl
 
-  pub refusal-leaves : (updateOf w b removals moves .0 ≡ 0 → ⊥) → updateOf w b removals moves .1 ≡ w
-  refusal-leaves f =
+  -- A refusal leaves the words as found.
+  pub update-kept : (updateOf w b removals moves .0 ≡ 0 → ⊥) → updateOf w b removals moves .1 ≡ w
+  update-kept f =
       ap (λ (p : ℕ × List ℕ). p .1) answer-is
       ∙ left (tooShort w b removals moves) (consistentWords w) (λ e. f (ap (λ (p : ℕ × List ℕ). p .0) answer-is ∙ e))
 
@@ -71,7 +74,7 @@ module _ (w b : List ℕ) (removals moves : ℕ) where
   unfolding tooShort
   call-done e =
       let z = zero (tooShort w b removals moves) (consistentWords w) (sym (ap (λ (p : ℕ × List ℕ). p .0) answer-is) ∙ e) in
-      let l : longEnough w ≡ true = long-of (longEnough w) (ltb (length b) (removals + 5 * moves)) (z .0) in
+      let l : longEnough w ≡ true = long-of (longEnough w) (ltb (length b) (removals + moveWidth * moves)) (z .0) in
       let c = consistent-image w (z .1) l in
       let s : T (consistent touch26 (after .1)) = consistent-update touch26 touching-26 (decode w) (batchOf b removals moves) (c .0) (z .2) in
       let v : updateOf w b removals moves .1 ≡ encode (after .1) ++ drop stateLen w = ap (λ (p : ℕ × List ℕ). p .1) answer-is ∙ z .3 in
@@ -85,4 +88,4 @@ module _ (w b : List ℕ) (removals moves : ℕ) where
       go true e =
           let d = call-done (eqb-true (updateOf w b removals moves .0) 0 e) in
           ap consistentWords (d .words) ∙ image-consistent (after .1) (drop stateLen w) (d .sound)
-      go false e = ap consistentWords (refusal-leaves (eqb-false (updateOf w b removals moves .0) 0 e)) ∙ c
+      go false e = ap consistentWords (update-kept (eqb-false (updateOf w b removals moves .0) 0 e)) ∙ c

@@ -11,7 +11,7 @@ use Rattle.batch.specs.Words.{batchOf}
 use Rattle.fresh.specs.Answer.{freshOf}
 use Rattle.fresh.specs.Theorems.{fresh-consistent}
 use Rattle.yard.specs.Update.{updateOf}
-use Rattle.yard.specs.Theorems.Calls.{call-done, refusal-leaves}
+use Rattle.yard.specs.Theorems.Calls.{call-done, update-kept}
 use Rattle.yard.specs.Runs.{AlikeWords, start, next, refused, refused′}
 
 -- Runs that end in equal states end alike.
@@ -30,9 +30,9 @@ alike-words grid (next {w} {v} b removals moves d removals′ moves′ r e f q) 
     (sym (x .stands)) (sym (y .stands))
     (Rattle.model.specs.Runs.Alike.next (batchOf b removals moves) (batchOf d removals′ moves′) (alike-words grid r) (x .number) (y .number) q)
 alike-words grid (refused {w} {v} b removals moves r f) =
-    same-ends grid (decode w) (decode (updateOf w b removals moves .1)) (decode v) (decode v) (ap decode (sym (refusal-leaves w b removals moves f))) refl (alike-words grid r)
+    same-ends grid (decode w) (decode (updateOf w b removals moves .1)) (decode v) (decode v) (ap decode (sym (update-kept w b removals moves f))) refl (alike-words grid r)
 alike-words grid (refused′ {w} {v} d removals moves r f) =
-    same-ends grid (decode w) (decode w) (decode v) (decode (updateOf v d removals moves .1)) refl (ap decode (sym (refusal-leaves v d removals moves f))) (alike-words grid r)
+    same-ends grid (decode w) (decode w) (decode v) (decode (updateOf v d removals moves .1)) refl (ap decode (sym (update-kept v d removals moves f))) (alike-words grid r)
 
 -- What the two states show of the grid is equal, the ids by a renaming that keeps their order.
 pub isolation-words : (grid : ℕ) {w v : List ℕ} → AlikeWords grid w v → SameOn touch26 grid (decode w) (decode v)

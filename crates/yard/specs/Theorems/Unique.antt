@@ -4,5 +4,5 @@ use mathlib.Core.Path.{_≡_, sym, _∙_}
 use mathlib.Core.List.{List}
 use Rattle.yard.specs.Update.{updateOf}
 
-pub update-unique : (w b : List ℕ) (removals moves : ℕ) (p q : ℕ × List ℕ) → p ≡ updateOf w b removals moves → q ≡ updateOf w b removals moves → p ≡ q
-update-unique w b removals moves p q e f = e ∙ sym f
+pub update-one : (w b : List ℕ) (removals moves : ℕ) (p q : ℕ × List ℕ) → p ≡ updateOf w b removals moves → q ≡ updateOf w b removals moves → p ≡ q
+update-one w b removals moves p q e f = e ∙ sym f

@@ -4,9 +4,9 @@ use borrow.Author.Needs.{needs}
 use Rattle.metres.specs.declared.Report.{Report}
 use Rattle.metres.specs.declared.Answer.{Answer}
 use Rattle.metres.specs.Answer.{answer}
-use Rattle.capmarrow.specs.Told.{telling}
-use Rattle.capmarrow.specs.Reports.{frameOf, reportGiven, eventTold}
-use Rattle.capmarrow.specs.Laws.Tells.{tells-short, tells-long}
+use Rattle.telling.specs.Words.{telling}
+use Rattle.telling.specs.Reports.{frameOf, reportGiven, eventTold}
+use Rattle.telling.specs.Laws.Tells.{tells-short, tells-long}
 use Rattle.capmarrow.proofs.reports.capmarrow_event_of.Statement.{statement}
 use Rattle.capmarrow.proofs.reports.capmarrow_event_of.Tie as tie
 

@@ -4,6 +4,7 @@ use mathlib.Core.Path.{sym}
 use native.Mathlib.Omega.{arith}
 use borrow.Author.Needs.{needs}
 use lib.Seq.{length-take-le}
+use Rattle.layout.specs.Widths.{moveWidth}
 use Rattle.player.proofs.playing.join.Statement.{statement}
 use Rattle.player.proofs.playing.join.Tie as tie
 
@@ -23,12 +24,12 @@ mul-write-row c = search needs
 slice-aggregate-write-row-2 : tie.Need-slice-aggregate-write-row-2
 slice-aggregate-write-row-2 c =
     let s = c .before .before .before .before .before .before .before .before .before .before in
-    sym (length-take-le (5 * s .args .m) (s .args .moves .now) (s .pre .1))
+    sym (length-take-le (moveWidth * s .args .m) (s .args .moves .now) (s .pre .1))
 
 write-row-requires-2 : tie.Need-write-row-requires-2
 write-row-requires-2 c κs =
     let s = c .before .before .before .before .before .before .before .before .before .before in
-    omega (arith, c .before .before .before .before .write-row .kept .0, length-take-le (5 * s .args .m) (s .args .moves .now) (s .pre .1))
+    omega (arith, c .before .before .before .before .write-row .kept .0, length-take-le (moveWidth * s .args .m) (s .args .moves .now) (s .pre .1))
 
 same-length : tie.Need-same-length
 same-length c = search needs

@@ -8,7 +8,7 @@ use Rattle.player.proofs.playing.play_all.Statement.{statement}
 use Rattle.player.proofs.playing.play_all.Tie as tie
 
 abbrev Inv-loop : tie.InvT-loop
-Inv-loop state₀ input₀ output₀ p₀ turns₀ state input output p turns = (48136 ≤ length state) × (length state ≡ length state₀) × (length input ≡ length input₀) × (length output ≡ length output₀) × Plays (length input) (length output) p
+Inv-loop state₀ input₀ output₀ p₀ turns₀ state input output p turns = (length input ≡ length input₀) × (length output ≡ length output₀) × Plays (length input) (length output) p
 
 abbrev μ-loop : tie.MeasureT-loop
 μ-loop state₀ input₀ output₀ p₀ turns₀ state input output p turns = turns
@@ -40,9 +40,6 @@ same-length c = search needs
 same-length-2 : tie.Need-same-length-2 Inv-loop μ-loop
 same-length-2 c = search needs
 
-same-length-3 : tie.Need-same-length-3 Inv-loop μ-loop
-same-length-3 c = search needs
-
 returns : tie.Need-returns Inv-loop μ-loop
 returns c = search needs
 
@@ -61,5 +58,4 @@ play-all-spec =
     flush-requires
     same-length
     same-length-2
-    same-length-3
     returns)

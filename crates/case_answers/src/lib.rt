@@ -1,0 +1,3 @@
+// What the questions answer, as the text of a row.
+pub mod answers;
+pub mod sorting;

@@ -1,0 +1,74 @@
+-- A yard has fewer than 100,000 words; the measure is how many of these are left.
+use Prim.Native.Nat.{_≤_, _-_}
+use borrow.Author.Needs.{needs}
+use Rattle.case_rows.proofs.words.spoil.Statement.{statement}
+use Rattle.case_rows.proofs.words.spoil.Tie as tie
+
+abbrev Inv-loop : tie.InvT-loop
+Inv-loop yard₀ from i₀ yard i = 0 ≤ i
+
+abbrev μ-loop : tie.MeasureT-loop
+μ-loop yard₀ from i₀ yard i = 100000 - i
+
+loop-holds : tie.Need-loop-holds Inv-loop μ-loop
+loop-holds c = search needs
+
+mul-yard : tie.Need-mul-yard Inv-loop μ-loop
+mul-yard c = search needs
+
+element-write-yard : tie.Need-element-write-yard Inv-loop μ-loop
+element-write-yard c = search needs
+
+add-i : tie.Need-add-i Inv-loop μ-loop
+add-i c = search needs
+
+loop-less : tie.Need-loop-less Inv-loop μ-loop
+loop-less c = search needs
+
+loop-again : tie.Need-loop-again Inv-loop μ-loop
+loop-again c = search needs
+
+wide-requires : tie.Need-wide-requires Inv-loop μ-loop
+wide-requires c κs = search needs
+
+wrapping-add-u64-requires : tie.Need-wrapping-add-u64-requires Inv-loop μ-loop
+wrapping-add-u64-requires c κs = search needs
+
+mul-yard-2 : tie.Need-mul-yard-2 Inv-loop μ-loop
+mul-yard-2 c = search needs
+
+element-write-yard-2 : tie.Need-element-write-yard-2 Inv-loop μ-loop
+element-write-yard-2 c = search needs
+
+add-i-2 : tie.Need-add-i-2 Inv-loop μ-loop
+add-i-2 c = search needs
+
+loop-less-2 : tie.Need-loop-less-2 Inv-loop μ-loop
+loop-less-2 c = search needs
+
+loop-again-2 : tie.Need-loop-again-2 Inv-loop μ-loop
+loop-again-2 c = search needs
+
+returns : tie.Need-returns Inv-loop μ-loop
+returns c = search needs
+
+pub spoil-spec : {M : Type 1} → statement M
+spoil-spec =
+    tie.close
+    (tie.spec
+    Inv-loop
+    μ-loop
+    loop-holds
+    mul-yard
+    element-write-yard
+    add-i
+    loop-less
+    loop-again
+    wide-requires
+    wrapping-add-u64-requires
+    mul-yard-2
+    element-write-yard-2
+    add-i-2
+    loop-less-2
+    loop-again-2
+    returns)

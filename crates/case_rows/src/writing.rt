@@ -1,0 +1,44 @@
+// Text is put together in a buffer; what does not fit is left out. The answer of each is how many bytes are used then.
+
+// How many bytes an answer's text may have.
+pub const TEXT_LEN: usize = 8192;
+
+// A byte is put behind those that are used.
+pub fn put_byte(out: &mut [u8; TEXT_LEN], used: usize, b: u8) -> usize {
+    if used < TEXT_LEN {
+        out[used] = b;
+        return used + 1;
+    }
+    used
+}
+
+// Bytes are put behind those that are used.
+pub fn put_text(out: &mut [u8; TEXT_LEN], used: usize, text: &[u8]) -> usize {
+    let mut u = used;
+    let mut i = 0;
+    while i < text.len() {
+        u = put_byte(out, u, text[i]);
+        i += 1;
+    }
+    u
+}
+
+// A number is put, behind a space.
+pub fn put_number(out: &mut [u8; TEXT_LEN], used: usize, n: u64) -> usize {
+    let mut digits = [0u8; 20];
+    let k = io::decimal(n, &mut digits);
+    let u = put_byte(out, used, b' ');
+    put_text(out, u, &digits[..k])
+}
+
+// A number in two's complement is put, behind a space.
+pub fn put_signed(out: &mut [u8; TEXT_LEN], used: usize, n: u64) -> usize {
+    if n < 9223372036854775808 {
+        return put_number(out, used, n);
+    }
+    let mut digits = [0u8; 20];
+    let k = io::decimal(std::num::wrapping_sub_u64(0, n), &mut digits);
+    let u = put_byte(out, used, b' ');
+    let v = put_byte(out, u, b'-');
+    put_text(out, v, &digits[..k])
+}

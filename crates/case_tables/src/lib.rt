@@ -1,0 +1,3 @@
+// Yards made by rows: the tables of a state by name, and drafts.
+pub mod drafting;
+pub mod tables;

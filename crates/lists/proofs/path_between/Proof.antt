@@ -1,0 +1,73 @@
+-- The cells of the path are written aside and given, or there is none.
+use Prim.Native.Nat.{ℕ, _*_, _≤_}
+use native.Mathlib.Omega.{arith}
+use mathlib.Core.Path.{sym, _∙_}
+use lib.ListN.{length, replicate, length-replicate}
+use borrow.Author.Needs.{needs}
+use Rattle.model.specs.Update.{mostCells}
+use Rattle.layout.specs.Rows.{cellsIn}
+use Rattle.path.specs.Walks.{Walked}
+use Rattle.layout.specs.Widths.{answerWidth}
+use Rattle.lists.specs.Laws.Paths.{path-no, path-yes}
+use Rattle.lists.proofs.path_between.Statement.{statement}
+use Rattle.lists.proofs.path_between.Tie as tie
+
+abbrev start : tie.After-path-rows → tie.Start
+start w = w .before .before .before .before
+
+-- The path is written.
+told : (w : tie.After-path-rows) → let s = start w in
+    Walked (s .args .cells .now) (s .args .n) (s .args .from) (s .args .to) (replicate (answerWidth * mostCells) 0) (w .path-rows .result) (w .path-rows .last .1 .1 .1 .1 .0) (cellsIn (s .args .n) (s .args .cells .now))
+told w = let s = start w in w .path-rows .ensures (cellsIn (s .args .n) (s .args .cells .now)) (s .pre .0)
+
+-- The words have space for it.
+long : (w : tie.After-path-rows) → (w .path-rows .result ≤ mostCells) × (answerWidth * w .path-rows .result ≤ length (w .path-rows .last .1 .1 .1 .1 .0))
+long w = (omega (arith, told w .few, start w .pre .3), omega (arith, told w .few, start w .pre .3, w .path-rows .kept .1 .1 .1 .1 .0))
+
+slice-aggregate-path-rows : tie.Need-slice-aggregate-path-rows
+slice-aggregate-path-rows c = search needs
+
+path-rows-requires : tie.Need-path-rows-requires
+path-rows-requires c κs =
+    let s = c .before .before .before in
+    (record { table = cellsIn (s .args .n) (s .args .cells .now); cells = s .pre .0 }, s .pre .1, s .pre .2, s .pre .3, omega (arith, s .pre .3, length-replicate {A = ℕ} (answerWidth * mostCells) 0))
+
+returns : tie.Need-returns
+returns c =
+    let w = c .before .before in
+    let s = start w in
+    path-no (s .args .cells .now) (s .args .n) (cellsIn (s .args .n) (s .args .cells .now)) (s .pre .0) (s .args .from) (s .args .to) (replicate (answerWidth * mostCells) 0) _ (w .path-rows .result) (told w) (s .args .answer .now) (c .if1 .taken)
+
+slice-aggregate-give : tie.Need-slice-aggregate-give
+slice-aggregate-give c = sym (c .before .before .before .path-rows .kept .1 .1 .1 .1 .0)
+
+mul-give : tie.Need-mul-give
+mul-give c = let h = long (c .before .before .before) .0 in search needs
+
+give-requires : tie.Need-give-requires
+give-requires c κs = long (c .before .before .before .before) .1
+
+same-length : tie.Need-same-length
+same-length c = search needs
+
+returns-2 : tie.Need-returns-2
+returns-2 c =
+    let g = c .before .before in
+    let i = g .before .before .before in
+    let w = i .before .before in
+    let s = start w in
+    g .give .ensures
+    ∙ path-yes (s .args .cells .now) (s .args .n) (cellsIn (s .args .n) (s .args .cells .now)) (s .pre .0) (s .args .from) (s .args .to) (replicate (answerWidth * mostCells) 0) _ (w .path-rows .result) (told w) (s .args .answer .now) (i .if1 .left) (long w .1)
+
+pub path-between-spec : {M : Type 1} → statement M
+path-between-spec =
+    tie.close
+    (tie.spec
+    slice-aggregate-path-rows
+    path-rows-requires
+    returns
+    slice-aggregate-give
+    mul-give
+    give-requires
+    same-length
+    returns-2)

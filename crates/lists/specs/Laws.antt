@@ -1,0 +1,6 @@
+pub mod Back
+pub mod Gives
+pub mod Scans
+pub mod Occupied
+pub mod Cubes
+pub mod Paths

@@ -1,0 +1,3 @@
+pub mod Following
+pub mod Spreading
+pub mod Wave

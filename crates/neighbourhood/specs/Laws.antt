@@ -1,0 +1,12 @@
+pub mod Lines
+pub mod Walking
+pub mod Listing
+pub mod Landing
+pub mod Reads
+pub mod Unmarked
+pub mod Pushes
+pub mod Filling
+pub mod Examples
+pub mod Cubes
+pub mod Outside
+pub mod Planes

@@ -1,0 +1,9 @@
+pub mod Lines
+pub mod Readings
+pub mod Wanted
+pub mod Marks
+pub mod Conjunctions
+pub mod Cells
+pub mod Records
+pub mod Range
+pub mod Nets

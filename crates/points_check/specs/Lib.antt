@@ -1,0 +1,4 @@
+pub mod Marks
+pub mod Lines
+pub mod Points
+pub mod Laws

@@ -1,0 +1,29 @@
+-- What a regrouping takes, and what it leaves in memory.
+use Prim.Native.Nat.{ℕ, _+_, _*_, _≤_, _<_}
+use mathlib.Core.Path.{_≡_}
+use mathlib.Core.List.{List}
+use lib.ListN.{length, replicate}
+use Rattle.model.specs.Cells.{Cell, touch26}
+use Rattle.model.specs.Groups.{Groups, regroup, records}
+use Rattle.model.specs.Update.{mostCells}
+use Rattle.layout.specs.Widths.{idWidth, groupWidth}
+use Rattle.partition.specs.Held.{HeldIds, HeldCells, HeldGroups}
+use Rattle.regrouping.specs.declared.Made.{Made}
+
+-- The groups s in the words ids can be regrouped, and the records built in the words groups, which are zero, after the cells o are newly
+-- occupied and the cells e newly emptied.
+pub record Regroups (ids : List ℕ) (n next : ℕ) (groups occ : List ℕ) (p : ℕ) (emp : List ℕ) (m : ℕ) (s : Groups) (o e : List Cell) : Type 0 where
+  pub held : HeldIds ids n next s
+  pub opened : HeldCells occ p o
+  pub emptied : HeldCells emp m e
+  pub ids-room : idWidth * n + idWidth * p ≤ length ids
+  pub groups-blank : groups ≡ replicate (length groups) 0
+  pub groups-room : groupWidth * mostCells ≤ length groups
+  pub few : length (regroup touch26 o e s .ids) ≤ mostCells
+  pub next-room : next + p < 18446744073709551616
+  pub next-fits : regroup touch26 o e s .next < 18446744073709551616
+
+-- The words hold the groups g and their records.
+pub record Regrouped (ids groups : List ℕ) (r : Made) (g : Groups) : Type 0 where
+  pub ids-held : HeldIds ids (r .ids) (r .next) g
+  pub groups-held : HeldGroups groups (r .groups) (records (g .ids))

@@ -1,4 +1,0 @@
-pub mod Scans
-pub mod Readings
-pub mod Wanted
-pub mod Marks

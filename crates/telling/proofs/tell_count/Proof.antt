@@ -1,0 +1,74 @@
+-- One way out for each answer: its words are written, or none.
+use mathlib.Core.Path.{refl}
+use borrow.Author.Needs.{needs}
+use Rattle.lookups.specs.declared.CountOf.{CountOf}
+use Rattle.lookups.specs.Told.{countTold}
+use Rattle.telling.specs.Words.{numbered, numberWords}
+use Rattle.telling.specs.Laws.Tells.{telling-by, telling-none}
+use Rattle.telling.proofs.tell_count.Statement.{statement}
+use Rattle.telling.proofs.tell_count.Tie as tie
+
+enum-known-a : tie.Need-enum-known-a
+enum-known-a c = search needs
+
+cast-t8 : tie.Need-cast-t8
+cast-t8 c = search needs
+
+slice-aggregate-tell : tie.Need-slice-aggregate-tell
+slice-aggregate-tell c = search needs
+
+tell-requires : tie.Need-tell-requires
+tell-requires c κs = search needs
+
+enum-told : tie.Need-enum-told
+enum-told c = search needs
+
+slice-aggregate-tell-2 : tie.Need-slice-aggregate-tell-2
+slice-aggregate-tell-2 c = search needs
+
+tell-requires-2 : tie.Need-tell-requires-2
+tell-requires-2 c κs = search needs
+
+enum-known-a-2 : tie.Need-enum-known-a-2
+enum-known-a-2 c = search needs
+
+same-length : tie.Need-same-length
+same-length c = search needs
+
+returns : tie.Need-returns
+returns c =
+    let s = c .before .before .before .before .before .before .before .before .before in
+    telling-by (λ (x : CountOf). numbered numberWords (countTold x)) (s .args .a) (CountOf.Found (c .before .before .before .before .before .before .a .given .0 .0)) (c .before .before .before .before .before .before .a .given .1) (s .args .told .now) (c .before .before .tell .last .0)
+    _ (c .before .before .tell .ensures) refl
+
+same-length-2 : tie.Need-same-length-2
+same-length-2 c = search needs
+
+returns-2 : tie.Need-returns-2
+returns-2 c =
+    let s = c .before .before .before .before .before .before .before .before in
+    telling-by (λ (x : CountOf). numbered numberWords (countTold x)) (s .args .a) (CountOf.NotFound) (c .before .before .before .before .before .enum-told .given .1) (s .args .told .now) (c .before .before .tell2 .last .0)
+    _ (c .before .before .tell2 .ensures) refl
+
+returns-3 : tie.Need-returns-3
+returns-3 c =
+    let s = c .before .before .before .before in
+    telling-none (λ (x : CountOf). numbered numberWords (countTold x)) (s .args .a) (CountOf.Refused (c .before .a2 .given .0 .0)) (c .before .a2 .given .1) (s .args .told .now) refl
+
+pub tell-count-spec : {M : Type 1} → statement M
+tell-count-spec =
+    tie.close
+    (tie.spec
+    enum-known-a
+    cast-t8
+    slice-aggregate-tell
+    tell-requires
+    enum-told
+    slice-aggregate-tell-2
+    tell-requires-2
+    enum-known-a-2
+    same-length
+    returns
+    same-length-2
+    returns-2
+    returns-3)

@@ -1,0 +1,4 @@
+pub mod Given
+pub mod Words
+pub mod Reports
+pub mod Laws

@@ -1,0 +1,80 @@
+-- What the calls for C give back and leave in the slices lent to them: document 01's number, and the words that tell what stands beside
+-- it. A slice for these words that is too short for the question gives 1, and nothing is written.
+use Prim.Native.Nat.{ℕ}
+use mathlib.Core.Bool.{Bool, cond}
+use mathlib.Core.List.{List, [], _∷_, _++_}
+use mathlib.Core.Option.{Option, none, some}
+use lib.Dec.{ltb}
+use lib.IntN.{ℤ}
+use lib.ListN.{length, drop}
+use Rattle.component.specs.declared.CellCoord.{CellCoord}
+use Rattle.component.specs.declared.CellId.{CellId}
+use Rattle.component.specs.Stored.{biased, signedWord}
+use Rattle.told.specs.Told.{Beside, values, needed, nothing, Told}
+use Rattle.lookups.specs.declared.Shown.{Shown}
+use Rattle.floods.specs.declared.Visited.{Visited}
+
+-- A coordinate as an answer has it: a word of two's complement.
+abbrev pub axisWord : ℤ → ℕ
+axisWord n = signedWord (biased n)
+
+-- The words of three coordinates, and then others.
+abbrev pub axisWords : CellCoord → List ℕ → List ℕ
+axisWords p rest = axisWord (p .x) ∷ axisWord (p .y) ∷ axisWord (p .z) ∷ rest
+
+-- 1 for yes and 0 for no.
+abbrev pub bit : Bool → ℕ
+bit b = cond b 1 0
+
+-- The number, and the words of what stands beside it.
+abbrev pub numbered : {B : Type 0} → (Beside B → List ℕ) → Told B → ℕ × List ℕ
+numbered words t = (t .number, words (t .beside))
+
+-- Where an entity stands: found, grid, x, y, z.
+abbrev pub whereWords : Beside (Option CellId) → List ℕ
+whereWords (values (some c)) = 1 ∷ c .grid ∷ axisWords (c .coord) []
+whereWords (values none) = 0 ∷ 0 ∷ 0 ∷ 0 ∷ 0 ∷ []
+whereWords (needed k) = []
+whereWords nothing = []
+
+-- The id or the neighbour count of a cell: found, and it.
+abbrev pub numberWords : Beside (Option ℕ) → List ℕ
+numberWords (values (some m)) = 1 ∷ m ∷ []
+numberWords (values none) = 0 ∷ 0 ∷ []
+numberWords (needed k) = []
+numberWords nothing = []
+
+-- A group: found, grid, count, low x, y, z, high x, y, z.
+abbrev pub groupWords : Beside (Option Shown) → List ℕ
+groupWords (values (some s)) = 1 ∷ s .grid ∷ s .count ∷ axisWords (s .low) (axisWords (s .high) [])
+groupWords (values none) = 0 ∷ 0 ∷ 0 ∷ 0 ∷ 0 ∷ 0 ∷ 0 ∷ 0 ∷ 0 ∷ []
+groupWords (needed k) = []
+groupWords nothing = []
+
+-- A list: found, how many it holds; of one that is too long the words needed stand in the second place.
+abbrev pub listingWords : Beside (Bool × ℕ) → List ℕ
+listingWords (values (found, k)) = bit found ∷ k ∷ []
+listingWords (needed k) = 0 ∷ k ∷ []
+listingWords nothing = []
+
+-- A flood: found, the number of its cells, whether that was all; of one that is too long the words needed stand in the second place.
+abbrev pub floodingWords : Beside (Bool × Visited) → List ℕ
+floodingWords (values (found, v)) = bit found ∷ v .number ∷ bit (v .«was_all») ∷ []
+floodingWords (needed k) = 0 ∷ k ∷ 0 ∷ []
+floodingWords nothing = []
+
+-- The words stand at the front of a slice, and the rest is as it was.
+unfoldable pub fronted : List ℕ → List ℕ → List ℕ
+fronted words told = words ++ drop (length words) told
+
+-- The number of an answer, and the slice with what is told.
+abbrev pub telling : ℕ × List ℕ → List ℕ → ℕ × List ℕ
+telling a told = (a .0, fronted (a .1) told)
+
+-- The same; 1 and the slice as found where it has not the words that may be told.
+unfoldable pub tells : ℕ → ℕ × List ℕ → List ℕ → ℕ × List ℕ
+tells most a told = cond (ltb (length told) most) (1, told) (telling a told)
+
+-- The same of an answer that also fills a slice, which then is as found too.
+unfoldable pub tellsFilled : {A : Type 0} → ℕ → (A → ℕ × List ℕ) → A × List ℕ → List ℕ → List ℕ → (ℕ × List ℕ) × List ℕ
+tellsFilled most words a told answer = cond (ltb (length told) most) ((1, told), answer) (telling (words (a .0)) told, a .1)

@@ -1,0 +1,4 @@
+pub mod Ways
+pub mod Fitting
+pub mod Numbers
+pub mod One

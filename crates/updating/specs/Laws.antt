@@ -1,0 +1,5 @@
+pub mod Longer
+pub mod Known
+pub mod Steps
+pub mod Writing
+pub mod Answers

@@ -1,0 +1,266 @@
+-- From the words of a consistent state to its tables.
+use Prim.Native.Nat.{ℕ, _*_, _≤_, _<_}
+use native.Mathlib.Omega.{arith}
+use mathlib.Core.Path.{_≡_, refl, sym, ap, _∙_, subst}
+use mathlib.Core.List.{List, List·Memᴰ as Mem, List·Memᴰ·not-nil as mem-nil}
+use lib.ListN.{length, replicate, length-replicate}
+use Rattle.model.specs.Cells.{Cell, below, touch26}
+use Rattle.model.specs.Occupancy.{Occupancy, Batch, occupied, startBatch, playBatch}
+use Rattle.model.specs.Groups.{regroup}
+use Rattle.model.specs.Update.{State, mostCells, accepted}
+use Rattle.model.specs.Laws.Orders.{cells}
+use Rattle.model.specs.Laws.Minus.{minus-self}
+use Rattle.model.specs.Laws.Sorted.{Asc, nil}
+use Rattle.model.specs.Laws.Tables.{keys-length}
+use Rattle.model.specs.Laws.Touching.{touching-26}
+use Rattle.model.specs.Laws.Occupied.{start-sound, occupied-asc}
+use Rattle.model.specs.Laws.Accepted.{Accepts, accepts, update-accepted}
+use Rattle.model.specs.Laws.Consistency.{Ok, ok-in}
+use Rattle.model.specs.Theorems.StaysConsistent.{accepted-ok}
+use Rattle.model.specs.Theorems.UpdateIds.{next-fits}
+use Rattle.table.specs.Moves.{over}
+use Rattle.layout.specs.Widths.{crowdWidth}
+use Rattle.layout.specs.Rows.{entitiesImage, cellsImage, idsImage, entitiesIn}
+use Rattle.layout.specs.State.{entitiesLen, cellsLen, netLen, idsLen, groupsLen, decode, entityWords, cellWords, idWords, cellCount, idCount, nextId}
+use Rattle.layout.specs.Laws.Images.{net-laws}
+use Rattle.layout.specs.Laws.Lengths.{ids-room}
+use Rattle.map.specs.declared.Counts.{Counts}
+use Rattle.map.specs.Held.{tally, crowdOf}
+use Rattle.map.specs.Laws.Crowd.{crowd-keys}
+use Rattle.map.specs.Laws.Tally.{crowd-of-words}
+use Rattle.partition.specs.Held.{HeldIds, HeldCells}
+use Rattle.batch_events.specs.Playing.{Roomy, Ready}
+use Rattle.regrouping.specs.Regrouping.{Regroups}
+use Rattle.updating.specs.Known.{Known}
+use Rattle.updating.specs.Laws.Known.{entities-long, cells-long, ids-long, occupied-ranged}
+use Rattle.updating.specs.Laws.Longer.{Extends, entities-extend, cells-extend, ids-extend, loaded}
+use Rattle.updating.specs.Steps.{Blank, entitySpace, cellSpace, crowdSpace, netSpace, idSpace, groupSpace, Opened, CanRegroup, Finishes}
+
+-- Zeros are all zero.
+pub zeros-blank : (n : ℕ) → Blank (replicate n 0)
+zeros-blank n = ap (λ (m : ℕ). replicate m 0) (sym (length-replicate {A = ℕ} n 0))
+
+-- The words of a state's table fit where its most rows and one more do.
+pub entities-spare : entitiesLen ≤ entitySpace
+unfolding entitiesLen
+entities-spare = omega arith
+
+pub cells-spare : cellsLen ≤ cellSpace
+unfolding cellsLen
+cells-spare = omega arith
+
+pub net-spare : netLen ≤ netSpace
+unfolding netLen
+net-spare = omega arith
+
+pub ids-spare : idsLen ≤ idSpace
+unfolding idsLen
+ids-spare = omega arith
+
+pub groups-spare : groupsLen ≤ groupSpace
+unfolding groupsLen
+groups-spare = omega arith
+
+-- The words of a table, written over zeros.
+part-loaded : {A : Type 0} {image : ℕ → List A → List ℕ} (ext : Extends image) (t : List A) (len : ℕ) → length (image len t) ≡ len
+    → (zeros : List ℕ) → Blank zeros → len ≤ length zeros → (row : List ℕ) → row ≡ image len t → (s : List ℕ) → s ≡ over zeros 0 row → length s ≡ length zeros → s ≡ image (length s) t
+part-loaded {A} {image} ext t len long zeros z h row q s g l = g ∙ loaded ext t len long zeros row z q h ∙ ap (λ (m : ℕ). image m t) (sym l)
+
+module _ (w : List ℕ) (k : Known w) (zeros : List ℕ) (z : Blank zeros) (row s : List ℕ) (e : s ≡ over zeros 0 row) (l : length s ≡ length zeros) where
+  -- The entities, copied out.
+  pub entities-loaded : row ≡ entityWords w → entitiesLen ≤ length zeros → s ≡ entitiesImage (length s) (decode w .occupancy .entities)
+  entities-loaded q h =
+      part-loaded entities-extend (decode w .occupancy .entities) entitiesLen (entities-long (decode w) (k .fits)) zeros z h row (q ∙ k .stands .entity-words) s e l
+
+  -- The occupied cells, copied out.
+  pub cells-loaded : row ≡ cellWords w → cellsLen ≤ length zeros → s ≡ cellsImage (length s) (decode w .occupancy .masks)
+  cells-loaded q h =
+      part-loaded cells-extend (decode w .occupancy .masks) cellsLen (cells-long (decode w) (k .fits)) zeros z h row (q ∙ k .stands .cell-words) s e l
+
+  -- The cells with an id, copied out.
+  pub ids-loaded : row ≡ idWords w → idsLen ≤ length zeros → s ≡ idsImage (length s) (decode w .groups .ids)
+  ids-loaded q h =
+      part-loaded ids-extend (decode w .groups .ids) idsLen (ids-long (decode w) (k .fits)) zeros z h row (q ∙ k .stands .id-words) s e l
+
+module _ (w : List ℕ) (k : Known w) where
+  abbrev o : Occupancy
+  o = decode w .occupancy
+
+  crowd-length : length (crowdOf o) ≡ length (occupied o)
+  crowd-length = sym (keys-length (crowdOf o)) ∙ ap length (crowd-keys touch26 o (k .ok .sound))
+
+  module _ (n : ℕ) (c : n ≡ length (o .entities)) (ents : List ℕ) (e : ents ≡ entitiesImage (length ents) (o .entities)) where
+    -- What stands in each cell is the crowd.
+    crowd-is : tally (entitiesIn n ents) ≡ crowdOf o
+    crowd-is = crowd-of-words touch26 o (k .ok .sound) n ents e c
+
+    -- There is room for the crowd.
+    pub crowd-room : (m : ℕ) → crowdWidth * mostCells ≤ m → crowdWidth * length (tally (entitiesIn n ents)) ≤ m
+    crowd-room m h = omega (arith, h, ap length crowd-is, crowd-length, k .ok .few-cells)
+
+    -- The map is copied out.
+    pub map-opened : (cels : List ℕ) → cels ≡ cellsImage (length cels) (o .masks) → (blank crowd : List ℕ) → length crowd ≡ length blank → crowd ≡ idsImage (length blank) (tally (entitiesIn n ents))
+        → (r : Counts) → r .entities ≡ n → r .cells ≡ cellCount w → r .occupied ≡ 0 → r .emptied ≡ 0 → Opened w ents cels crowd r
+    map-opened cels d blank crowd l g r x y z u =
+        record {
+          entities-are = e;
+          masks-are = d;
+          crowd-is = g ∙ (λ i. idsImage (sym l i) (crowd-is i));
+          entities-count = x ∙ c;
+          cells-count = y ∙ k .stands .cell-count;
+          occupied-none = z;
+          emptied-none = u;
+        }
+
+  -- A map that is copied out, with empty net lists, is ready for the events of a batch.
+  pub opened-ready : (ents cels crowd occ emp : List ℕ) (n : Counts) → Opened w ents cels crowd n → Blank occ → Blank emp → Roomy ents cels crowd occ emp → Ready ents cels crowd occ emp n (occupied o) (startBatch o)
+  unfolding crowdOf
+  opened-ready ents cels crowd occ emp n x z y r =
+      let few : length (o .masks) ≤ mostCells = omega (arith, k .ok .few-cells, keys-length (o .masks)) in
+      record {
+        held = record {
+          entities-is = x .entities-are;
+          entities-count = x .entities-count;
+          entities-fit = omega (arith, x .entities-count, k .ok .few-entities, r .ents-room);
+          crowd-is = x .crowd-is;
+          crowd-fit = omega (arith, x .cells-count, few, r .crowd-room);
+          stored = record {
+            masks = x .masks-are;
+            opened = z ∙ sym (net-laws .none (length occ));
+            emptied = y ∙ sym (net-laws .none (length emp));
+            cells-count = x .cells-count;
+            occupied-count = x .occupied-none;
+            emptied-count = x .emptied-none;
+            cells-fit = omega (arith, x .cells-count, few, r .cells-room);
+            occupied-fit = omega (arith, x .occupied-none);
+            emptied-fit = omega (arith, x .emptied-none);
+          };
+          placed = record {
+            sound = start-sound touch26 o (k .ok .sound);
+            inside = record { stood = λ {c = a} m. k .ok .range-entities a m; opened = λ m. absurd (mem-nil m); emptied = λ m. absurd (mem-nil m) };
+            opened-asc = nil;
+            emptied-asc = nil;
+            opened-in = λ a m. absurd (mem-nil m);
+            emptied-out = λ a m. absurd (mem-nil m);
+          };
+        };
+        within = record { entities = k .ok .few-entities; cells = k .ok .few-cells };
+        was-asc = occupied-asc touch26 o (k .ok .sound);
+        was-few = k .ok .few-cells;
+        net = record { opened = sym (minus-self cells (occupied o)); emptied = sym (minus-self cells (occupied o)) };
+        room = r;
+      }
+
+  -- The cells with an id, as the rules take them.
+  pub ids-held : (n : ℕ) (next : ℕ) (ids : List ℕ) → n ≡ idCount w → next ≡ nextId w → idsLen ≤ length ids → ids ≡ idsImage (length ids) (decode w .groups .ids) → HeldIds ids n next (decode w .groups)
+  ids-held n next ids c x h e =
+      record {
+        rows = record {
+          image = e;
+          count = c ∙ k .stands .id-count;
+          asc = subst (Asc below) (sym (k .ok .id-cells)) (occupied-asc touch26 o (k .ok .sound));
+          ranged = λ a m. occupied-ranged w k a (subst (λ l. Mem a l) (k .ok .id-cells) m);
+          fits = omega (arith, c, k .stands .id-count, ids-room (length (decode w .groups .ids)) (k .fits .ids), h);
+        };
+        is-next = x ∙ k .stands .next-id;
+      }
+
+-- A batch that is accepted, its events played.
+module _ {w ents cels occ emp : List ℕ} {n : Counts} {b : Batch} (f : Finishes w ents cels occ emp n b) where
+  abbrev s : State
+  s = decode w
+
+  abbrev p : Occupancy
+  p = playBatch touch26 b (s .occupancy)
+
+  yes : Accepts touch26 s b
+  yes = accepts touch26 s b (update-accepted touch26 s b (f .accepted) .0)
+
+  -- What it leaves is consistent.
+  pub after-ok : Ok touch26 (accepted touch26 s b)
+  after-ok = accepted-ok touch26 touching-26 s b (f .known .ok) yes
+
+  -- The newly occupied cells, as the rules take them.
+  opened-held : HeldCells occ (n .occupied) (p .newlyOccupied)
+  opened-held =
+      record {
+        image = f .ready .held .stored .opened;
+        count = f .ready .held .stored .occupied-count;
+        asc = f .ready .held .placed .opened-asc;
+        ranged = λ c m. f .ready .held .placed .inside .opened m;
+        fits = f .ready .held .stored .occupied-fit;
+      }
+
+  -- The newly emptied cells, as the rules take them.
+  emptied-held : HeldCells emp (n .emptied) (p .newlyEmptied)
+  emptied-held =
+      record {
+        image = f .ready .held .stored .emptied;
+        count = f .ready .held .stored .emptied-count;
+        asc = f .ready .held .placed .emptied-asc;
+        ranged = λ c m. f .ready .held .placed .inside .emptied m;
+        fits = f .ready .held .stored .emptied-fit;
+      }
+
+  -- There are few cells with an id afterwards.
+  few-after : length (regroup touch26 (p .newlyOccupied) (p .newlyEmptied) (s .groups) .ids) ≤ mostCells
+  unfolding accepted
+  few-after =
+      omega (arith, after-ok .few-cells, ap length (after-ok .id-cells), keys-length (regroup touch26 (p .newlyOccupied) (p .newlyEmptied) (s .groups) .ids))
+
+  -- The next id is a number of 64 bits afterwards.
+  next-after : regroup touch26 (p .newlyOccupied) (p .newlyEmptied) (s .groups) .next < 18446744073709551616
+  unfolding accepted
+  next-after =
+      subst (λ (u : State). u .groups .next < 18446744073709551616) (update-accepted touch26 s b (f .accepted) .1)
+      (next-fits touch26 touching-26 s (ok-in touch26 (touching-26 .flip) s (f .known .ok)) b (f .accepted))
+
+  -- There are few newly occupied cells.
+  opened-few : n .occupied ≤ mostCells
+  unfolding accepted
+  opened-few = omega (arith, f .ready .held .stored .occupied-count, after-ok .few-occupied)
+
+  -- The groups can be regrouped.
+  pub finish-regroups : (ids groups : List ℕ) → Blank ids → idSpace ≤ length ids → Blank groups → groupSpace ≤ length groups
+      → CanRegroup w ids groups occ (n .occupied) emp (n .emptied) (p .newlyOccupied) (p .newlyEmptied)
+  finish-regroups ids groups z h y g =
+      record {
+        known = f .known;
+        ids-blank = z;
+        ids-room = h;
+        groups-blank = y;
+        groups-room = g;
+        opened = opened-held;
+        opened-few = opened-few;
+        emptied = emptied-held;
+        few = few-after;
+        next-room = omega (arith, opened-few, yes .ids-left);
+        next-fits = next-after;
+      }
+
+-- The cells with an id, copied out, can be regrouped.
+pub regroup-ready : {w ids groups occ : List ℕ} {p : ℕ} {emp : List ℕ} {m : ℕ} {o e : List Cell} → CanRegroup w ids groups occ p emp m o e
+    → (row words : List ℕ) → row ≡ idWords w → words ≡ over ids 0 row → length words ≡ length ids → (n : ℕ) → n ≡ idCount w → Regroups words n (nextId w) groups occ p emp m (decode w .groups) o e
+regroup-ready {w} {ids} {groups} {occ} {p} {emp} {m} {o} {e} x row words q g l n c =
+    let k = x .known in
+    let h : idsLen ≤ length ids = omega (arith, x .ids-room, ids-spare) in
+    let r = ids-room (length (decode w .groups .ids)) (k .fits .ids) in
+    record {
+      held = ids-held w k n (nextId w) words c refl (omega (arith, h, l)) (ids-loaded w k ids (x .ids-blank) row words g l q h);
+      opened = x .opened;
+      emptied = x .emptied;
+      ids-room = omega (arith, c, k .stands .id-count, r, x .opened-few, x .ids-room, l);
+      groups-blank = x .groups-blank;
+      groups-room = x .groups-room;
+      few = x .few;
+      next-room = omega (arith, x .next-room, k .stands .next-id);
+      next-fits = x .next-fits;
+    }
+
+-- The map of a state and empty net lists, each table with a row to spare.
+pub map-ready : (w : List ℕ) (k : Known w) (ents cels crowd occ emp : List ℕ) (n : Counts) → Opened w ents cels crowd n
+    → length ents ≡ entitySpace → length cels ≡ cellSpace → length crowd ≡ crowdSpace → Blank occ → length occ ≡ netSpace → Blank emp → length emp ≡ netSpace
+    → Ready ents cels crowd occ emp n (occupied (decode w .occupancy)) (startBatch (decode w .occupancy))
+map-ready w k ents cels crowd occ emp n x a b c z d y e =
+    opened-ready w k ents cels crowd occ emp n x z y
+    (record { ents-room = omega (arith, a); cells-room = omega (arith, b); crowd-room = omega (arith, c); occ-room = omega (arith, d); emp-room = omega (arith, e) })

@@ -1,0 +1,4 @@
+pub mod Done
+pub mod Known
+pub mod Steps
+pub mod Laws
