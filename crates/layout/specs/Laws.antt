@@ -8,3 +8,4 @@ pub mod Fitting
 pub mod Standing
 pub mod Orderly
 pub mod Cut
+pub mod Tables

@@ -130,13 +130,7 @@ fn cross(from: &mut [u64], to: &mut [u64], n: usize, m: usize, c: Cell) -> Nets
 }
 
 // A cell opens: it gets its mask, joins those of its neighbours, and crosses the net lists.
-fn insert_entry(
-    cells: &mut [u64],
-    occ: &mut [u64],
-    emp: &mut [u64],
-    n: Counts,
-    c: Cell,
-) -> Counts
+fn insert_entry(cells: &mut [u64], occ: &mut [u64], emp: &mut [u64], n: Counts, c: Cell) -> Counts
     requires { ⌜ ((o : Occupancy) × Opens (now cells) (now occ) (now emp) n c o) ⌝ }
     ensures { λ r. ⌜ r .entities ≡ n .entities ⌝ }
     ensures { λ r. ⌜ ((o : Occupancy) → Opens (now (cells .entry)) (now (occ .entry)) (now (emp .entry)) n c o → Stored (now (cells .exit)) (now (occ .exit)) (now (emp .exit)) r (openCell touch26 c o)) ⌝ }
@@ -156,13 +150,7 @@ fn insert_entry(
 }
 
 // A cell closes: its row goes out, it leaves the masks of its neighbours, and crosses the net lists.
-fn remove_entry(
-    cells: &mut [u64],
-    occ: &mut [u64],
-    emp: &mut [u64],
-    n: Counts,
-    c: Cell,
-) -> Counts
+fn remove_entry(cells: &mut [u64], occ: &mut [u64], emp: &mut [u64], n: Counts, c: Cell) -> Counts
     requires { ⌜ ((o : Occupancy) × Closes (now cells) (now occ) (now emp) n c o) ⌝ }
     ensures { λ r. ⌜ r .entities ≡ n .entities ⌝ }
     ensures { λ r. ⌜ ((o : Occupancy) → Closes (now (cells .entry)) (now (occ .entry)) (now (emp .entry)) n c o → Stored (now (cells .exit)) (now (occ .exit)) (now (emp .exit)) r (closeCell touch26 c o)) ⌝ }
@@ -320,7 +308,7 @@ fn relocate(
 }
 
 // Where an entity stands.
-pub enum Stand {
+enum Stand {
     Inside(Cell),
     Nowhere,
 }

@@ -260,10 +260,11 @@ pub fn flood_into(cells: &[u64], n: usize, rows: &[u64], count: usize, answer: &
 fn is_near(d: u64, m: u64, n: u64) -> bool
     ensures { λ r. ⌜ r ≡ nearOn d m n ⌝ }
 {
-    if d < 2_147_483_648 {
+    let zero = component::bias(0);
+    if d < zero {
         return false;
     }
-    are_near(d - 2_147_483_648, m, n)
+    are_near(d - zero, m, n)
 }
 
 // Whether a cell is within the depth of the seed on every axis.

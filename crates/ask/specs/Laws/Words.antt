@@ -28,22 +28,13 @@ use Rattle.layout.specs.Points.{tidy}
 use Rattle.layout.specs.Facts.{Orderly, BeginsWith}
 use Rattle.layout.specs.Laws.Cut.{entities-long, cells-long, occupied-long, emptied-long, ids-long, groups-long}
 use Rattle.layout.specs.Laws.Lengths.{entities-room, cells-room, net-room, ids-room, groups-room}
+use Rattle.layout.specs.Laws.Tables.{table-by}
 use Rattle.layout.specs.Laws.Fitting.{consistent-fits}
 use Rattle.layout.specs.Laws.Standing.{image-stands}
 use Rattle.layout.specs.Laws.Orderly.{orderly-out}
 use Rattle.layout.specs.Theorems.Canonical.{consistent-image}
 use Rattle.neighbourhood.specs.Standing.{Cells}
 use Rattle.ask.specs.Laws.Ways.{Sure}
-
--- Tidy rows whose keys ascend are a table.
-table-by : {K : Type 0} (kind : Kind K) (wide most n : ℕ) (s : List ℕ) → kind .size ≤ wide → tidy wide most n s ≡ true → (n ≤ most → wide * n ≤ length s)
-    → Asc (kind .less) (keys (tableOf kind wide n s)) → isTableOf kind wide n s ≡ true
-unfolding isTableOf
-table-by kind wide most n s a t room asc =
-    let p = both (leb n most) (areZero (drop (wide * n) s)) t in
-    let fit : wide * n ≤ length s = room (leb-true n most (p .0)) in
-    let up : isAscending (kind .less) (keys (tableOf kind wide n s)) ≡ true = true-of (isAscending (kind .less) (keys (tableOf kind wide n s))) (isAscending-in asc) in
-    λ i. le-leb (kind .size) wide a i && (le-leb (wide * n) (length s) fit i && (up i && p .1 i))
 
 -- Tidy rows are few.
 tidy-few : (wide most n : ℕ) (s : List ℕ) → tidy wide most n s ≡ true → n ≤ most

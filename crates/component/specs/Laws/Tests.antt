@@ -42,6 +42,9 @@ pub not-and : (a b : Bool) → (a && b) ≡ false → (a ≡ false) ⊎ (b ≡ f
 not-and true b e = inr e
 not-and false b e = inl refl
 
+pub and-in : (a b : Bool) → a ≡ true → b ≡ true → (a && b) ≡ true
+and-in a b e f = λ i. e i && f i
+
 pub both : (a b : Bool) → (a && b) ≡ true → (a ≡ true) × (b ≡ true)
 both true b e = (refl, e)
 both false b e = absurd (subst T (sym e) tt)

@@ -4,7 +4,7 @@ use mathlib.Core.Path.{_≡_}
 use mathlib.Core.Bool.{Bool, true, _&&_}
 use mathlib.Core.List.{List}
 use lib.Dec.{leb}
-use Rattle.component.specs.Laws.Tests.{both}
+use Rattle.component.specs.Laws.Tests.{and-in, both}
 use Rattle.model.specs.Cells.{touch26}
 use Rattle.model.specs.Update.{State, mostEntities, mostCells}
 use Rattle.model.specs.Consistent.{withinNumber, cellsExact, masksExact, idsShared, recordsExact, idsBelowNext, coordinatesInRange, netsInOrder}
@@ -13,10 +13,6 @@ use Rattle.layout.specs.Widths.{entityWidth, cellWidth, netWidth, idWidt
 use Rattle.layout.specs.State.{decode, spareWords, entityWords, cellWords, occupiedWords, emptiedWords, idWords, groupWords, entityCount, cellCount, occupiedCount, emptiedCount, idCount, groupCount}
 use Rattle.layout.specs.Points.{tidy, point1, point2, point3, point4, point5, point6, point7, point8, consistentWords}
 use Rattle.layout.specs.Facts.{Orderly}
-
--- The two parts of a conjunction that holds.
-and-in : (a b : Bool) → a ≡ true → b ≡ true → (a && b) ≡ true
-and-in a b e f = λ i. e i && f i
 
 module _ (w : List ℕ) where
   abbrev s : State

@@ -2,7 +2,7 @@
 use Prim.Native.Nat.{ℕ, _+_, _≤_}
 use native.Mathlib.Omega.{arith}
 use mathlib.Core.Path.{_≡_, refl, sym, ap, _∙_}
-use mathlib.Core.List.{List, [], _∷_, _++_}
+use mathlib.Core.List.{List, [], _∷_, _++_, append-assoc}
 use lib.ListN.{length, take, drop, getD, length-append, length-drop, take-append-drop}
 use lib.Seq.{slice, length-take-le, take-append-seam, drop-append-seam, take-add, take-take, drop-drop, drop-at}
 use Rattle.layout.specs.Widths.{spare}
@@ -33,6 +33,10 @@ module _ {w : List ℕ} {f : ℕ} (t : ℕ) (a r : List ℕ) (here : From w f (a
             ∙ ap (drop (length a)) (here .rest)
             ∙ drop-append-seam a r;
       }
+
+-- Seven parts, the first ones together, one after the other.
+pub seven-parts : (h a b c d e g : List ℕ) → (((((h ++ a) ++ b) ++ c) ++ d) ++ e) ++ g ≡ h ++ (a ++ (b ++ (c ++ (d ++ (e ++ g)))))
+seven-parts h a b c d e g = simp append-assoc
 
 -- The words up to t are those up to f and those from f to t.
 pub take-more : (w : List ℕ) (f t : ℕ) → f ≤ t → take t w ≡ take f w ++ slice f t w

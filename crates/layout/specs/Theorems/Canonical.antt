@@ -4,7 +4,7 @@ use native.Mathlib.Omega.{arith}
 use mathlib.Core.Path.{_≡_, sym, ap, _∙_, subst}
 use mathlib.Core.Bool.{true, _&&_, _||_}
 use mathlib.Core.Logic.{_↔_}
-use mathlib.Core.List.{List, [], _∷_, _++_, append-assoc, List·Memᴰ as Mem}
+use mathlib.Core.List.{List, [], _∷_, _++_, List·Memᴰ as Mem}
 use lib.Dec.{T, leb}
 use lib.ListN.{length, take, drop, replicate, take-append-drop}
 use lib.Seq.{slice, length-slice}
@@ -29,7 +29,7 @@ use Rattle.layout.specs.Points.{tidy, longEnough, consistentWords}
 use Rattle.layout.specs.Facts.{TableLaws, Fits, BeginsWith, Orderly}
 use Rattle.layout.specs.Laws.Images.{entities-laws, cells-laws, net-laws, ids-laws, groups-laws}
 use Rattle.layout.specs.Laws.Lengths.{header-end, entities-end, cells-end, occupied-end, emptied-end, ids-end, groups-end, entities-room, cells-room, net-room, ids-room, groups-room}
-use Rattle.layout.specs.Laws.Parts.{take-more, first-words}
+use Rattle.layout.specs.Laws.Parts.{seven-parts, take-more, first-words}
 use Rattle.layout.specs.Laws.Fitting.{consistent-fits}
 use Rattle.layout.specs.Laws.Standing.{image-stands}
 use Rattle.layout.specs.Theorems.DecodeEncode.{decode-longer}
@@ -51,10 +51,6 @@ module _ {A : Type 0} {wide : ℕ} {image : ℕ → List A → List ℕ} {reads 
 -- A part that is there has the length between its ends.
 part-length : (w : List ℕ) (f len t : ℕ) → f + len ≡ t → t ≤ length w → length (slice f t w) ≡ len
 part-length w f len t e h = length-slice f t w h ∙ omega arith
-
--- Seven parts, the first ones together, one after the other.
-regroup : (h a b c d e g : List ℕ) → (((((h ++ a) ++ b) ++ c) ++ d) ++ e) ++ g ≡ h ++ (a ++ (b ++ (c ++ (d ++ (e ++ g)))))
-regroup h a b c d e g = simp append-assoc
 
 module _ (w : List ℕ) (long : stateLen ≤ length w) where
   groups-fit : groupsFrom ≤ length w
@@ -88,7 +84,7 @@ module _ (w : List ℕ) (long : stateLen ≤ length w) where
       ∙ ap (λ (l : List ℕ). l ++ occupiedWords w)
       (take-more w cellsFrom occupiedFrom (omega (arith, cells-end))
       ∙ ap (λ (l : List ℕ). l ++ cellWords w) (take-more w entitiesFrom cellsFrom (omega (arith, entities-end)))))))
-      ∙ regroup (take entitiesFrom w) (entityWords w) (cellWords w) (occupiedWords w) (emptiedWords w) (idWords w) (groupWords w)
+      ∙ seven-parts (take entitiesFrom w) (entityWords w) (cellWords w) (occupiedWords w) (emptiedWords w) (idWords w) (groupWords w)
 
   module _ (o : Orderly w) where
     -- The spare words are zeros.

@@ -14,16 +14,16 @@ use Rattle.model.specs.Update.{mostCells}
 use Rattle.model.specs.Laws.Tests.{T-true, true-of}
 use Rattle.model.specs.Laws.Orders.{cells as cell-order}
 use Rattle.model.specs.Laws.Members.{equal-in, equal-out}
-use Rattle.model.specs.Laws.Sorted.{Asc, isAscending-in, ascending-asc}
+use Rattle.model.specs.Laws.Sorted.{Asc, ascending-asc}
 use Rattle.table.specs.Rows.{cell, areZero, table4, isTable4, isTableOf}
 use Rattle.table.specs.Laws.Words.{keys-length}
 use Rattle.layout.specs.Widths.{cellWidth, idWidth}
 use Rattle.layout.specs.Rows.{entitiesIn, cellsIn, idsIn}
 use Rattle.layout.specs.Points.{tidy}
+use Rattle.layout.specs.Laws.Tables.{table-by}
 use Rattle.points_check.specs.Points.{standingIn, cellsRight}
 use Rattle.points_check.specs.Laws.Readings.{cells-keys, ids-keys}
 use Rattle.points_check.specs.Laws.Wanted.{true-false}
-use Rattle.points_check.specs.Laws.Conjunctions.{and-in}
 
 -- A test that cannot hold fails.
 pub refuted : (b : Bool) → (b ≡ true → ⊥) → b ≡ false
@@ -37,15 +37,6 @@ table-zeros v n s e =
     let a = both (leb 4 v) _ e in
     let b = both (leb (v * n) (length s)) _ (a .1) in
     both (isAscending below (keys (table4 v n s))) (areZero (drop (v * n) s)) (b .1) .1
-
--- A tidy table whose keys are an ascending list.
-tidy-table : (v n : ℕ) (s : List ℕ) (l : List Cell) → 4 ≤ v → v * n ≤ length s → areZero (drop (v * n) s) ≡ true → keys (table4 v n s) ≡ l → Asc below l → isTable4 v n s ≡ true
-unfolding isTableOf
-tidy-table v n s l h k z e a =
-    let asc : isAscending below (keys (table4 v n s)) ≡ true = true-of (isAscending below (keys (table4 v n s))) (isAscending-in (subst (λ x. Asc below x) (sym e) a)) in
-    and-in (leb 4 v) _ (le-leb 4 v h)
-    (and-in (leb (v * n) (length s)) _ (le-leb (v * n) (length s) k)
-    (and-in (isAscending below (keys (table4 v n s))) (areZero (drop (v * n) s)) asc z))
 
 -- What point 2 says of the tables of cells and of ids.
 pub record Tabled (ents : List ℕ) (n : ℕ) (cells : List ℕ) (m : ℕ) (ids : List ℕ) (k : ℕ) : Type 0 where
@@ -77,8 +68,8 @@ module _ (ents : List ℕ) (n : ℕ) (cells : List ℕ) (m : ℕ) (ids : List �
       record {
         few-cells = few;
         few-ids = few-k;
-        cells-table = tidy-table cellWidth m cells st (omega arith) (omega arith) (p .1) cells-are asc;
-        ids-table = tidy-table idWidth k ids st (omega arith) (omega arith) (q .1) ids-are asc;
+        cells-table = table-by cell cellWidth mostCells m cells (omega arith) (a .0) (λ f. omega arith) (subst (λ x. Asc below x) (sym cells-are) asc);
+        ids-table = table-by cell idWidth mostCells k ids (omega arith) (b .0) (λ f. omega arith) (subst (λ x. Asc below x) (sym ids-are) asc);
         cells-are = cells-are;
         ids-are = ids-are;
       }

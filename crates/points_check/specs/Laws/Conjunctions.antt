@@ -7,10 +7,6 @@ pub and-false : (a : Bool) → (a && false) ≡ false
 and-false true = refl
 and-false false = refl
 
--- Two conjunctions that hold.
-pub and-in : (a b : Bool) → a ≡ true → b ≡ true → (a && b) ≡ true
-and-in a b e f = λ i. e i && f i
-
 -- The parts of point 1.
 within-rest : (d u z : Bool) → (d && (u && z)) ≡ (z && (d && (u && d)))
 within-rest false u z = sym (and-false z)

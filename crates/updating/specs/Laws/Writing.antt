@@ -1,7 +1,7 @@
 -- The parts that are written are those of the state after an accepted batch.
 use Prim.Native.Nat.{ℕ, _+_, _-_, _≤_}
 use mathlib.Core.Path.{_≡_, ap, _∙_}
-use mathlib.Core.List.{List, _∷_, _++_, append-assoc}
+use mathlib.Core.List.{List, _∷_, _++_}
 use lib.ListN.{length, take, drop, replicate}
 use Rattle.model.specs.Cells.{touch26}
 use Rattle.model.specs.Occupancy.{Occupancy, Batch, playBatch}
@@ -9,6 +9,7 @@ use Rattle.model.specs.Groups.{Groups, regroup, records}
 use Rattle.model.specs.Update.{State, accepted}
 use Rattle.layout.specs.Widths.{headerLen, spare}
 use Rattle.layout.specs.Rows.{entitiesImage, cellsImage, netImage, idsImage, groupsImage}
+use Rattle.layout.specs.Laws.Parts.{seven-parts}
 use Rattle.layout.specs.State.{entitiesLen, cellsLen, netLen, idsLen, groupsLen, stateLen, header, encode, decode}
 use Rattle.layout.specs.Facts.{Fits}
 use Rattle.map.specs.declared.Counts.{Counts}
@@ -19,9 +20,6 @@ use Rattle.updating.specs.Laws.Known.{entities-long, cells-long, opened-
 use Rattle.updating.specs.Laws.Longer.{entities-extend, cells-extend, net-extend, ids-extend, groups-extend, front}
 use Rattle.updating.specs.Steps.{Finishes, headWords}
 use Rattle.updating.specs.Laws.Steps.{after-ok}
-
-in-turn : (h a b c d e g : List ℕ) → (((((h ++ a) ++ b) ++ c) ++ d) ++ e) ++ g ≡ h ++ (a ++ (b ++ (c ++ (d ++ (e ++ g)))))
-in-turn h a b c d e g = simp append-assoc
 
 -- All parts are written: the words of the state after an accepted batch.
 module _ {w ents cells occ emp : List ℕ} {n : Counts} {b : Batch} (f : Finishes w ents cells occ emp n b) where
@@ -78,4 +76,4 @@ module _ {w ents cells occ emp : List ℕ} {n : Counts} {b : Batch} (f : Finishe
         s .is
         ∙ ap (λ (l : List ℕ). l ++ drop stateLen w)
         ((λ i. (((((((e ∙ head-part) i) ++ ents-part i) ++ cells-part i) ++ opened-part i) ++ emptied-part i) ++ ids-part i) ++ groups-part i)
-        ∙ in-turn (header a) (entitiesImage entitiesLen (a .occupancy .entities)) (cellsImage cellsLen (a .occupancy .masks)) (netImage netLen (a .occupancy .newlyOccupied)) (netImage netLen (a .occupancy .newlyEmptied)) (idsImage idsLen (a .groups .ids)) (groupsImage groupsLen (a .records)))
+        ∙ seven-parts (header a) (entitiesImage entitiesLen (a .occupancy .entities)) (cellsImage cellsLen (a .occupancy .masks)) (netImage netLen (a .occupancy .newlyOccupied)) (netImage netLen (a .occupancy .newlyEmptied)) (idsImage idsLen (a .groups .ids)) (groupsImage groupsLen (a .records)))
