@@ -1,5 +1,6 @@
-//! The calls on words. Each gives back the scope's number; what a question tells beside its list stands in `told` (found first), and
-//! is written only where the number is 0 or 8.
+//! The calls on words. Each gives back the scope's number; what else is told stands in `told`, of three words or more: where the number
+//! is 0, what is said at each call (found first); after 8: 0, the words needed, 0; after any other: 0, the place of the fault, its axis
+//! (compare/capmarrow.h has what the place is for each number). A `told` that is too short gives 1, and nothing is written.
 //!
 //! A slice of Rust is the pointer and the length that the library asks for, two slices lent at once never overlap where one is
 //! written, and the library's proofs say that it reads and writes nothing else: so each `unsafe` below holds for every argument.
@@ -7,14 +8,19 @@
 use crate::ffi;
 use crate::Cell;
 
-/// A fresh state in the first words of a slice.
-pub fn fresh(state: &mut [u64], first_id: u64) -> u64 {
-    unsafe { ffi::capmarrow_fresh(state.as_mut_ptr(), state.len(), first_id) }
+/// A fresh state in the first words of a slice. Told: 0, 0, 0.
+pub fn fresh(state: &mut [u64], first_id: u64, told: &mut [u64]) -> u64 {
+    unsafe { ffi::capmarrow_fresh(state.as_mut_ptr(), state.len(), first_id, told.as_mut_ptr(), told.len()) }
 }
 
-/// A batch: removals, one word each, then moves, five words each (entity, grid, x, y, z).
-pub fn update(state: &mut [u64], batch: &[u64], removals: u64, moves: u64) -> u64 {
-    unsafe { ffi::capmarrow_update(state.as_mut_ptr(), state.len(), batch.as_ptr(), batch.len(), removals, moves) }
+/// A batch: removals, one word each, then moves, five words each (entity, grid, x, y, z). Told: 0, 0, 0.
+pub fn update(state: &mut [u64], batch: &[u64], removals: u64, moves: u64, told: &mut [u64]) -> u64 {
+    unsafe { ffi::capmarrow_update(state.as_mut_ptr(), state.len(), batch.as_ptr(), batch.len(), removals, moves, told.as_mut_ptr(), told.len()) }
+}
+
+/// Whether a state is consistent. Told: 0, 0, 0.
+pub fn consistent(state: &[u64], told: &mut [u64]) -> u64 {
+    unsafe { ffi::capmarrow_consistent(state.as_ptr(), state.len(), told.as_mut_ptr(), told.len()) }
 }
 
 /// Told: found, grid, x, y, z.

@@ -1,17 +1,20 @@
 //! The proved yard for Rust programs: a safe wrapper over the static library that `rt staticlib capmarrow` writes.
 //!
 //! [`Yard`] keeps the words of a state and answers in its own types. [`calls`] has the same calls on words, for those who keep the
-//! words themselves. Nothing here computes an answer: every call is one call of the proved library.
+//! words themselves, and [`Refusal::of`] says what their numbers mean. Nothing here computes an answer: every call is one call of the
+//! proved library.
 
 mod ffi;
 
 pub mod calls;
+mod refusal;
 mod reports;
 mod types;
 mod yard;
 
+pub use refusal::{Answer, Axis, Given, Place, Refusal};
 pub use reports::{event_of, BadReport, Event, Frame, Report};
-pub use types::{Answer, Batch, Cell, Cube, Flood, Group, Lookup, Refusal};
+pub use types::{Batch, Cell, Cube, Flood, Group, Lookup};
 pub use yard::Yard;
 
 /// How many words a state has.

@@ -2,7 +2,7 @@
 
 use std::fmt;
 
-use crate::{Batch, Cell};
+use crate::{Axis, Batch, Cell};
 
 extern "C" {
     fn capmarrow_event_of(
@@ -36,46 +36,52 @@ pub struct Event {
     pub error: Option<f64>,
 }
 
-/// Why a report was refused: the number, and where the fault is.
-#[derive(Debug, Clone, Copy, PartialEq, Eq)]
+/// Why a report was refused: the number, where the fault is, and the value there.
+#[derive(Debug, Clone, Copy, PartialEq)]
 pub enum BadReport {
-    /// 10: the coordinate of an axis, x 0, y 1, z 2.
-    Coordinate(usize),
+    /// 10: the first coordinate that may not be, x before y before z.
+    Coordinate(Axis, f64),
     /// 10: the error.
-    Error,
+    Error(f64),
     /// 11: the frame's edge.
-    Edge,
-    /// 11: the frame's origin on an axis.
-    Origin(usize),
+    Edge(f64),
+    /// 11: the first of the frame's origin that may not be.
+    Origin(Axis, f64),
+    /// A number, or a place of a fault, that the scope does not give for the call.
+    Unknown(u64),
 }
 
 impl BadReport {
     /// The scope's number.
     pub fn number(self) -> u64 {
         match self {
-            BadReport::Coordinate(_) | BadReport::Error => 10,
-            BadReport::Edge | BadReport::Origin(_) => 11,
+            BadReport::Coordinate(..) | BadReport::Error(_) => 10,
+            BadReport::Edge(_) | BadReport::Origin(..) => 11,
+            BadReport::Unknown(number) => number,
         }
     }
 
-    fn of(number: u64, at: u64, axis: u64) -> Self {
-        match (number, at) {
-            (10, 0) => BadReport::Coordinate(axis as usize),
-            (10, _) => BadReport::Error,
-            (_, 0) => BadReport::Edge,
-            _ => BadReport::Origin(axis as usize),
-        }
+    fn of(number: u64, at: u64, axis: u64, frame: Frame, report: Report) -> Self {
+        let on = |values: [f64; 3]| Axis::of(axis).map(|a| (a, values[a as usize]));
+        let fault = match (number, at, report) {
+            (10, 0, Report::Fix(x, y, z) | Report::Reckoned(x, y, z, _)) => on([x, y, z]).map(|(a, was)| BadReport::Coordinate(a, was)),
+            (10, 1, Report::Reckoned(_, _, _, error)) => Some(BadReport::Error(error)),
+            (11, 0, _) => Some(BadReport::Edge(frame.edge)),
+            (11, 1, _) => on([frame.x, frame.y, frame.z]).map(|(a, was)| BadReport::Origin(a, was)),
+            _ => None,
+        };
+        fault.unwrap_or(BadReport::Unknown(number))
     }
 }
 
 impl fmt::Display for BadReport {
     fn fmt(&self, f: &mut fmt::Formatter<'_>) -> fmt::Result {
-        let name = |axis: usize| ["x", "y", "z"][axis];
         match *self {
-            BadReport::Coordinate(axis) => write!(f, "refused by number 10: {} is not finite, or beyond 1,048,576 m of the origin", name(axis)),
-            BadReport::Error => write!(f, "refused by number 10: the error is not finite, or below zero"),
-            BadReport::Edge => write!(f, "refused by number 11: the edge is not 1, 2, 4, 8, 16, 32 or 64 m"),
-            BadReport::Origin(axis) => write!(f, "refused by number 11: the origin's {} is not whole metres within 1,048,576 of zero", name(axis)),
+            BadReport::Coordinate(axis, was) => write!(f, "report: {axis} is {was}, not finite or more than 1048576 m from the origin"),
+            BadReport::Error(was) => write!(f, "report: the error is {was}, not finite or below zero"),
+            BadReport::Edge(was) => write!(f, "frame: the edge is {was}, not 1, 2, 4, 8, 16, 32 or 64 m"),
+            BadReport::Origin(axis, was) => write!(f, "frame: the origin's {axis} is {was}, not whole metres within 1048576 of zero"),
+            BadReport::Unknown(number) => write!(f, "refused by number {number} in a way that this wrapper does not know"),
         }
     }
 }
@@ -100,7 +106,7 @@ pub fn event_of(frame: Frame, report: Report, entity: u64, grid: u64) -> Result<
             offsets: [told[6], told[7], told[8]].map(f64::from_bits),
             error: (told[9] == 1).then(|| f64::from_bits(told[10])),
         })),
-        _ => Err(BadReport::of(number, told[1], told[2])),
+        _ => Err(BadReport::of(number, told[1], told[2], frame, report)),
     }
 }
 

@@ -2,6 +2,8 @@
 
 use std::fmt;
 
+use crate::refusal::Axis;
+
 /// A cell: its grid and its signed coordinates. Cells are in the order of grid, then z, then y, then x.
 #[derive(Clone, Copy, PartialEq, Eq, PartialOrd, Ord, Hash)]
 pub struct Cell {
@@ -14,6 +16,15 @@ pub struct Cell {
 impl Cell {
     pub fn new(grid: u64, x: i32, y: i32, z: i32) -> Self {
         Cell { grid, z, y, x }
+    }
+
+    /// The coordinate on an axis.
+    pub fn on(self, axis: Axis) -> i32 {
+        match axis {
+            Axis::X => self.x,
+            Axis::Y => self.y,
+            Axis::Z => self.z,
+        }
     }
 
     /// The four words of a cell in an answer: grid, x, y, z, the last three in two's complement.
@@ -49,59 +60,6 @@ impl Batch {
 fn word(n: i32) -> u64 {
     i64::from(n) as u64
 }
-
-/// Why a call was refused: the scope's numbers. A refused call leaves the yard as it was.
-#[derive(Debug, Clone, Copy, PartialEq, Eq)]
-pub enum Refusal {
-    TooShort = 1,
-    NotConsistent = 2,
-    TooManyEvents = 3,
-    OutOfRange = 4,
-    FewIds = 5,
-    TooManyEntities = 6,
-    TooManyCells = 7,
-    AnswerTooLong = 8,
-    NoPath = 12,
-}
-
-impl Refusal {
-    const ALL: [Refusal; 9] = [
-        Refusal::TooShort,
-        Refusal::NotConsistent,
-        Refusal::TooManyEvents,
-        Refusal::OutOfRange,
-        Refusal::FewIds,
-        Refusal::TooManyEntities,
-        Refusal::TooManyCells,
-        Refusal::AnswerTooLong,
-        Refusal::NoPath,
-    ];
-
-    /// The scope's number.
-    pub fn number(self) -> u64 {
-        self as u64
-    }
-
-    /// The refusal of a number, none for 0.
-    pub(crate) fn of(number: u64) -> Answer<()> {
-        if number == 0 {
-            return Ok(());
-        }
-        let told = Refusal::ALL.into_iter().find(|refusal| refusal.number() == number);
-        Err(told.expect("a number of the scope"))
-    }
-}
-
-impl fmt::Display for Refusal {
-    fn fmt(&self, f: &mut fmt::Formatter<'_>) -> fmt::Result {
-        write!(f, "refused by number {}", self.number())
-    }
-}
-
-impl std::error::Error for Refusal {}
-
-/// An answer, unless the call was refused.
-pub type Answer<T> = Result<T, Refusal>;
 
 /// What is found, or that there is no such entity, cell or id.
 #[derive(Debug, Clone, Copy, PartialEq, Eq)]

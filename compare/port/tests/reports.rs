@@ -59,11 +59,15 @@ fn events_are_told() {
 #[test]
 fn faults_are_told() {
     let frame = Frame { edge: 64.0, ..FRAME };
-    let fix = |x, y, z| event_of(frame, Report::Fix(x, y, z), 1, 1);
-    assert_eq!(fix(f64::INFINITY, f64::NAN, 0.0), Err(BadReport::Coordinate(0)));
-    assert_eq!(fix(0.0, 1048526.0000000002, 2e6), Err(BadReport::Coordinate(1)));
-    assert_eq!(fix(0.0, 0.0, 1048576.0000000002), Err(BadReport::Coordinate(2)));
-    assert_eq!(event_of(frame, Report::Reckoned(0.0, 0.0, 0.0, -1.0), 1, 1), Err(BadReport::Error));
-    assert_eq!(event_of(Frame { edge: 3.0, x: 0.5, ..FRAME }, Report::Nothing, 1, 1), Err(BadReport::Edge));
-    assert_eq!(event_of(Frame { y: f64::NAN, z: 0.5, ..FRAME }, Report::Nothing, 1, 1), Err(BadReport::Origin(1)));
+    let said = |frame, report| event_of(frame, report, 1, 1).unwrap_err().to_string();
+    let fix = |x, y, z| said(frame, Report::Fix(x, y, z));
+    assert_eq!(fix(f64::INFINITY, f64::NAN, 0.0), "report: x is inf, not finite or more than 1048576 m from the origin");
+    assert_eq!(fix(0.0, 1048526.0000000002, 2e6), "report: y is 1048526.0000000002, not finite or more than 1048576 m from the origin");
+    assert_eq!(fix(0.0, 0.0, 1048576.0000000002), "report: z is 1048576.0000000002, not finite or more than 1048576 m from the origin");
+    assert_eq!(said(frame, Report::Reckoned(0.0, 0.0, 0.0, -1.0)), "report: the error is -1, not finite or below zero");
+    assert_eq!(said(Frame { edge: 3.0, x: 0.5, ..FRAME }, Report::Nothing), "frame: the edge is 3, not 1, 2, 4, 8, 16, 32 or 64 m");
+    assert_eq!(said(Frame { y: f64::NAN, z: 0.5, ..FRAME }, Report::Nothing), "frame: the origin's y is NaN, not whole metres within 1048576 of zero");
+    assert_eq!(event_of(frame, Report::Reckoned(0.0, 0.0, 0.0, -1.0), 1, 1), Err(BadReport::Error(-1.0)));
+    assert_eq!(BadReport::Unknown(99).to_string(), "refused by number 99 in a way that this wrapper does not know");
+    assert_eq!([BadReport::Error(0.0), BadReport::Edge(0.0), BadReport::Unknown(99)].map(BadReport::number), [10, 11, 99]);
 }

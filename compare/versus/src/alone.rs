@@ -23,14 +23,14 @@ fn apart(i: u64) -> Cell {
 
 fn update(state: &mut [u64], moves: Vec<(u64, Cell)>) {
     let batch = Batch { removals: vec![], moves };
-    let number = calls::update(state, &batch.words(), 0, batch.moves.len() as u64);
+    let number = calls::update(state, &batch.words(), 0, batch.moves.len() as u64, &mut [0; 3]);
     assert_eq!(number, 0, "a batch is refused");
 }
 
 /// A state of so many cells, the walker's among them, with so many entities in each of the others.
 fn filled(shape: Shape, cells: u64, each: u64) -> Vec<u64> {
     let mut state = vec![0; STATE_LEN];
-    calls::fresh(&mut state, 0);
+    calls::fresh(&mut state, 0, &mut [0; 3]);
     for k in 0..each {
         update(&mut state, (0..cells - 1).map(|i| (k * cells + i, shape(i))).collect());
     }

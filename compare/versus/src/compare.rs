@@ -35,7 +35,7 @@ impl Sides {
     pub fn new(first_id: u64, walk: u64) -> Self {
         let mut words = vec![u64::MAX; STATE_LEN];
         words.extend(BEHIND);
-        assert_eq!(calls::fresh(&mut words, first_id), 0);
+        assert_eq!(calls::fresh(&mut words, first_id, &mut [0; 3]), 0);
         Sides { words, rust: RustYard::new(walk), first_id, ids_comparable: true }
     }
 
@@ -47,10 +47,13 @@ impl Sides {
     pub fn offer(&mut self, offer: &Offer, asking: Asking, rng: &mut Rng, counts: &mut Counts) -> Verdict {
         let expected = self.rust.number(offer, self.state().next_id());
         let before = (expected != 0).then(|| self.words.clone());
-        let number = calls::update(&mut self.words, &offer.words, offer.removals, offer.moves);
+        let mut told = [8; 3];
+        let number = calls::update(&mut self.words, &offer.words, offer.removals, offer.moves, &mut told);
         if number != expected {
             return Err(format!("the number is {number} and should be {expected}"));
         }
+        let (at, axis) = offer.place();
+        same("places of a fault", told, [0, at, axis])?;
         if let Some(before) = before {
             *counts.refused.entry(number).or_default() += 1;
             return same("the words before and after a refusal", &self.words, &before);

@@ -29,8 +29,8 @@ pub fn cubes() {
     for (name, upright) in [("one plane", false), ("32 planes", true)] {
         let batch = Batch { removals: vec![], moves: full(upright) };
         let mut state = vec![0; STATE_LEN];
-        calls::fresh(&mut state, 0);
-        assert_eq!(calls::update(&mut state, &batch.words(), 0, batch.moves.len() as u64), 0);
+        calls::fresh(&mut state, 0, &mut [0; 3]);
+        assert_eq!(calls::update(&mut state, &batch.words(), 0, batch.moves.len() as u64, &mut [0; 3]), 0);
         let mut rust = RustYard::new(1);
         rust.run(&batch);
         let centre = batch.moves[MOST_CELLS / 2 + 16].1;

@@ -32,11 +32,22 @@ impl Offer {
         if u128::from(self.removals) + u128::from(self.moves) > MOST_EVENTS as u128 {
             return 3;
         }
+        self.out_of_range().map_or(0, |_| 4)
+    }
+
+    /// The position of the first move with a coordinate out of range, and the first such axis of it.
+    fn out_of_range(&self) -> Option<(u64, u64)> {
         let far = |n: &u64| !(-i64::from(FAR)..=i64::from(FAR)).contains(&(*n as i64));
-        if self.move_words().any(|m| m[2..5].iter().any(far)) {
-            return 4;
+        let axis = |m: &[u64]| m[2..5].iter().position(far);
+        self.move_words().enumerate().find_map(|(at, m)| Some((at as u64, axis(m)? as u64)))
+    }
+
+    /// The place of the fault that is told beside the number: of 4 the position and the axis, else zeros.
+    pub fn place(&self) -> (u64, u64) {
+        match self.number() {
+            4 => self.out_of_range().unwrap_or_default(),
+            _ => (0, 0),
         }
-        0
     }
 
     fn move_words(&self) -> impl Iterator<Item = &[u64]> {

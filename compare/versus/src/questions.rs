@@ -4,7 +4,7 @@ use crate::compare::{same, Sides, Verdict};
 use crate::counts::Counts;
 use crate::paths;
 use crate::rng::Rng;
-use capmarrow::{calls, Answer, Cell, Cube, Flood, Lookup, Refusal, Yard, FAR, STATE_LEN};
+use capmarrow::{calls, Answer, Batch, Cell, Cube, Flood, Lookup, Yard, FAR, STATE_LEN};
 use std::collections::BTreeSet;
 
 /// How much is asked after a batch.
@@ -21,7 +21,7 @@ pub enum Asking {
 }
 
 fn answered<T>(answer: Answer<T>) -> Result<T, String> {
-    answer.map_err(|refusal| format!("a question was {refusal}"))
+    answer.map_err(|refusal| format!("a question was refused: {refusal}"))
 }
 
 fn found<T>(answer: Option<T>) -> Lookup<T> {
@@ -47,6 +47,8 @@ pub fn ask(sides: &Sides, asking: Asking, rng: &mut Rng, counts: &mut Counts) ->
         Asking::Some => some,
         Asking::Few | Asking::Nothing => 1,
     };
+    answered(yard.consistent())?;
+    counts.asked("consistent");
     lists(sides, &yard, counts)?;
     for k in 0..times(entities.len(), 3).min(entities.len()) {
         let (entity, at) = entities[if asking == Asking::All { k } else { rng.below(entities.len() as u64) as usize }];
@@ -158,25 +160,34 @@ fn cube(sides: &Sides, yard: &Yard, centre: Cell, cells: &[Cell], rng: &mut Rng,
 }
 
 /// Refused questions: a state or a slice for the told words that is too short, a cell out of range, an answer that is too long. Each
-/// leaves what it was lent.
+/// leaves the answer's slice.
 fn refusals(sides: &Sides, at: Cell, rng: &mut Rng, counts: &mut Counts) -> Verdict {
     let out = [Cell { x: FAR + 1, ..at }, Cell { y: -FAR - 1, ..at }, Cell { z: i32::MIN, ..at }];
     let mut answer = [9u64; 8];
     let mut told = [8u64; 3];
-    let short = calls::nearby(&sides.words[..STATE_LEN - 1], at, &mut answer, &mut told);
-    same("numbers of a short state", short, Refusal::TooShort.number())?;
     let untold = calls::flood(&sides.words, at, None, 1, &mut answer, &mut told[..2]);
-    same("numbers of a short slice for what is told", untold, Refusal::TooShort.number())?;
-    let far = calls::cube(&sides.words, rng.pick(&out), 1, &mut answer, &mut told);
-    same("numbers of a cell out of range", far, Refusal::OutOfRange.number())?;
-    same("slices after a refusal", (answer, told), ([9; 8], [8; 3]))?;
+    same("refusals of a short slice for what is told", (untold, told), (1, [8; 3]))?;
+    let short = calls::nearby(&sides.words[..STATE_LEN - 1], at, &mut answer, &mut told);
+    same("refusals of a short state", (short, told), (1, [0; 3]))?;
+    let axis = rng.below(3);
+    let far = calls::cube(&sides.words, out[axis as usize], 1, &mut answer, &mut told);
+    same("refusals of a cell out of range", (far, told), (4, [0, 0, axis]))?;
+    let far = calls::path(&sides.words, at, out[axis as usize], &mut answer, &mut told);
+    same("refusals of a second cell out of range", (far, told), (4, [0, 1, axis]))?;
+    same("the answer's slice after a refusal", answer, [9; 8])?;
+    let bad = Cell { z: i32::MIN, ..out[axis as usize] };
+    let batch = Batch { removals: vec![0], moves: vec![(0, at), (1, bad), (2, rng.pick(&out))] };
+    let mut words = sides.words.clone();
+    let number = calls::update(&mut words, &batch.words(), 1, 3, &mut told);
+    same("refusals of a batch with cells out of range", (number, told), (4, [0, 1, axis]))?;
+    same("the words after a refusal", words, sides.words.clone())?;
     counts.asked("what is refused by 1 or 4");
     let whole = sides.rust.flood(at, None);
     if !whole.is_empty() {
         let words = 4 * whole.len() as u64;
         let mut answer = vec![9u64; words as usize - 1];
         let number = calls::flood(&sides.words, at, None, u64::MAX, &mut answer, &mut told);
-        same("numbers of an answer that is too long", (number, told[1]), (Refusal::AnswerTooLong.number(), words))?;
+        same("refusals of an answer that is too long", (number, told), (8, [0, words, 0]))?;
         same("the answer's slice after 8", answer.iter().all(|w| *w == 9), true)?;
         counts.asked("what is refused by 8");
     }

@@ -91,7 +91,9 @@ fn script(plan: &Plan, rng: &mut Rng) -> String {
         if plan.first_id != 0 && !ids {
             break;
         }
-        text += &format!("{}update = code {number}\n", events(&offer));
+        let (at, axis) = offer.place();
+        let place = if number == 4 { format!(" at {at} axis {axis}") } else { String::new() };
+        text += &format!("{}update = code {number}{place}\n", events(&offer));
         if number == 0 {
             ids &= yard.update(&offer.batch()).leaves_ids_comparable();
             text += &shown(&yard, ids.then_some(plan.first_id), rng);

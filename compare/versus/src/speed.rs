@@ -55,10 +55,10 @@ fn races() -> Vec<Race> {
 /// The time of each side for the timed batches, once.
 fn once(race: &Race) -> (Duration, Duration) {
     let mut words = vec![0; STATE_LEN];
-    calls::fresh(&mut words, 0);
+    calls::fresh(&mut words, 0, &mut [0; 3]);
     let mut rust = RustYard::new(1);
     let update = |words: &mut Vec<u64>, batch: &Batch| {
-        let number = calls::update(words, &batch.words(), batch.removals.len() as u64, batch.moves.len() as u64);
+        let number = calls::update(words, &batch.words(), batch.removals.len() as u64, batch.moves.len() as u64, &mut [0; 3]);
         assert_eq!(number, 0, "{} is refused", race.name);
     };
     for batch in &race.first {

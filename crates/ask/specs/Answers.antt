@@ -1,13 +1,14 @@
 -- What each question tells for the words of a state: the refusals are tried in order, and else the model's question is asked of the
 -- state that the words stand for.
 use Prim.Native.Nat.{ℕ}
-use mathlib.Core.Bool.{Bool, cond, not}
+use mathlib.Core.Bool.{Bool, cond}
 use mathlib.Core.List.{List}
 use mathlib.Core.Option.{Option}
-use lib.Dec.{eqb}
 use Rattle.component.specs.declared.CellId.{CellId}
 use Rattle.component.specs.Stored.{stored, cellId}
-use Rattle.component.specs.Coord.{coordInRange}
+use Rattle.component.specs.Coord.{coordInRange, badAxis}
+use Rattle.refusal.specs.declared.Refusal.{Refusal}
+use Rattle.refusal.specs.Forms.{none, outOfRange}
 use Rattle.model.specs.Lists.{has}
 use Rattle.model.specs.Cells.{same, touch26}
 use Rattle.model.specs.Occupancy.{occupied}
@@ -16,7 +17,6 @@ use Rattle.model.specs.Questions.{whereIs, neighbourCount, groupBy, entitiesIn,
 use Rattle.model.specs.Questions as question
 use Rattle.model.specs.Shortest.{shownPath}
 use Rattle.layout.specs.State.{decode}
-use Rattle.layout.specs.Points.{longEnough, consistentWords}
 use Rattle.told.specs.Told.{Told, done, refused, unless, seen, unlessRefused}
 use Rattle.lookups.specs.declared.Shown.{Shown}
 use Rattle.lookups.specs.Told.{shownOf}
@@ -24,22 +24,19 @@ use Rattle.lists.specs.Told.{listedNumbers, listedCells, there, pathFrom}
 use Rattle.floods.specs.declared.Visited.{Visited}
 use Rattle.floods.specs.declared.Depth.{Depth}
 use Rattle.floods.specs.Told.{flooded, depthOf}
+use Rattle.consistent.specs.Answer.{stateRefusal}
 
--- 1 for words that are too few for a state, 2 for words that are not consistent, else 0.
-unfoldable pub refusal : List ℕ → ℕ
-refusal w = cond (not (longEnough w)) 1 (cond (not (consistentWords w)) 2 0)
+-- The state's refusal, and then 4 for a cell that is out of range: a question's cell is at position 0, and told is its first bad axis.
+unfoldable pub cellRefusal : List ℕ → CellId → Refusal
+cellRefusal w c = unless (stateRefusal w) (λ r. r) (cond (coordInRange (c .coord)) none (outOfRange 0 (badAxis (c .coord))))
 
--- The same, and then 4 for a cell that is out of range.
-unfoldable pub cellRefusal : List ℕ → CellId → ℕ
-cellRefusal w c = cond (eqb (refusal w) 0) (cond (coordInRange (c .coord)) 0 4) (refusal w)
-
--- The same, and then 4 for a second cell that is out of range.
-unfoldable pub cellsRefusal : List ℕ → CellId → CellId → ℕ
-cellsRefusal w a b = cond (eqb (cellRefusal w a) 0) (cond (coordInRange (b .coord)) 0 4) (cellRefusal w a)
+-- The same, and then 4 for a second cell that is out of range, at position 1.
+unfoldable pub cellsRefusal : List ℕ → CellId → CellId → Refusal
+cellsRefusal w a b = unless (cellRefusal w a) (λ r. r) (cond (coordInRange (b .coord)) none (outOfRange 1 (badAxis (b .coord))))
 
 -- Where an entity stands.
 unfoldable pub whereOf : List ℕ → ℕ → Told (Option CellId)
-whereOf w e = unless (refusal w) refused (done (seen cellId (whereIs (decode w) e)))
+whereOf w e = unless (stateRefusal w) refused (done (seen cellId (whereIs (decode w) e)))
 
 -- The id of a cell.
 unfoldable pub idOf : List ℕ → CellId → Told (Option ℕ)
@@ -51,19 +48,19 @@ countOf w c = unless (cellRefusal w c) refused (done (neighbourCount (decode w) 
 
 -- A group by id.
 unfoldable pub groupOf : List ℕ → ℕ → Told (Option Shown)
-groupOf w g = unless (refusal w) refused (done (seen shownOf (groupBy (decode w) g)))
+groupOf w g = unless (stateRefusal w) refused (done (seen shownOf (groupBy (decode w) g)))
 
 -- The ids, ascending.
 unfoldable pub idsOf : List ℕ → List ℕ → Told (Bool × ℕ) × List ℕ
-idsOf w answer = unlessRefused (refusal w) answer (listedNumbers (there (idList (decode w))) answer)
+idsOf w answer = unlessRefused (stateRefusal w) answer (listedNumbers (there (idList (decode w))) answer)
 
 -- The newly occupied cells, ascending.
 unfoldable pub occupiedOf : List ℕ → List ℕ → Told (Bool × ℕ) × List ℕ
-occupiedOf w answer = unlessRefused (refusal w) answer (listedCells (there (decode w .occupancy .newlyOccupied)) answer)
+occupiedOf w answer = unlessRefused (stateRefusal w) answer (listedCells (there (decode w .occupancy .newlyOccupied)) answer)
 
 -- The newly emptied cells, ascending.
 unfoldable pub emptiedOf : List ℕ → List ℕ → Told (Bool × ℕ) × List ℕ
-emptiedOf w answer = unlessRefused (refusal w) answer (listedCells (there (decode w .occupancy .newlyEmptied)) answer)
+emptiedOf w answer = unlessRefused (stateRefusal w) answer (listedCells (there (decode w .occupancy .newlyEmptied)) answer)
 
 -- The entities of a cell, ascending.
 unfoldable pub entitiesOf : List ℕ → CellId → List ℕ → Told (Bool × ℕ) × List ℕ

@@ -1,3 +1,4 @@
 pub mod Exactly
 pub mod Kept
 pub mod One
+pub mod Places

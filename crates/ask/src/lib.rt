@@ -1,5 +1,5 @@
-// The questions: what a lent state answers. A state that is too short is refused by 1, one that is not consistent by 2, a cell out
-// of range by 4, and an answer that is longer than the slice for it by 8, in that order.
+// The questions: what a lent state answers. A state that is too short is refused by 1, one that is not consistent by 2 with its first
+// broken point, a cell out of range by 4 with its position and axis, and an answer longer than the slice for it by 8, in that order.
 use component::CellId;
 pub use floods::Depth;
 pub use floods::Flooding;
@@ -11,54 +11,47 @@ pub use lookups::IdOf;
 pub use lookups::Shown;
 pub use lookups::Where;
 pub use lookups::corners;
+use refusal::Refusal;
 ghost use mathlib.Core.Path.{_≡_};
 ghost use Rattle.lookups.specs.Told.{whereTold, idTold, countTold, groupTold};
 ghost use Rattle.lists.specs.Told.{listingTold};
 ghost use Rattle.floods.specs.Told.{floodingTold};
-ghost use Rattle.ask.specs.Answers.{refusal, cellRefusal, cellsRefusal, whereOf, idOf, countOf, groupOf, idsOf, occupiedOf, emptiedOf, entitiesOf, nearbyOf, cubeOf, floodOf, pathOf};
+ghost use Rattle.ask.specs.Answers.{cellRefusal, cellsRefusal, whereOf, idOf, countOf, groupOf, idsOf, occupiedOf, emptiedOf, entitiesOf, nearbyOf, cubeOf, floodOf, pathOf};
 
-// 1 for a state that is too short, 2 for one that is not consistent, else 0.
-fn refused(state: &[u64]) -> u64
-    ensures { λ r. ⌜ r ≡ refusal (now (state .entry)) ⌝ }
-{
-    if state.len() < layout::state_len() {
-        return 1;
-    }
-    if consistent::consistent(state) { 0 } else { 2 }
-}
-
-// The same, and 4 for a cell that is out of range.
-fn cell_refused(state: &[u64], cell: CellId) -> u64
+// 1 and 2 by the state, and 4 for a cell that is out of range.
+fn cell_refused(state: &[u64], cell: CellId) -> Refusal
     ensures { λ r. ⌜ r ≡ cellRefusal (now (state .entry)) cell ⌝ }
 {
-    let no = refused(state);
-    if no != 0 {
+    let no = consistent::consistent(state);
+    if no.number != 0 {
         return no;
     }
     if component::in_range(cell.coord) {
-        0
-    } else {
-        4
+        return refusal::none();
     }
+    refusal::out_of_range(0, component::bad_axis(cell.coord))
 }
 
-// 1 and 2 by the state, and 4 for either of two cells that is out of range.
-fn cells_refused(state: &[u64], from: CellId, to: CellId) -> u64
+// The same of a first cell, and then 4 for a second one that is out of range.
+fn cells_refused(state: &[u64], from: CellId, to: CellId) -> Refusal
     ensures { λ r. ⌜ r ≡ cellsRefusal (now (state .entry)) from to ⌝ }
 {
     let no = cell_refused(state, from);
-    if no != 0 {
+    if no.number != 0 {
         return no;
     }
-    if component::in_range(to.coord) { 0 } else { 4 }
+    if component::in_range(to.coord) {
+        return refusal::none();
+    }
+    refusal::out_of_range(1, component::bad_axis(to.coord))
 }
 
 // Where an entity stands.
 pub fn where_is(state: &[u64], entity: u64) -> Where
     ensures { λ r. ⌜ whereTold r ≡ whereOf (now (state .entry)) entity ⌝ }
 {
-    let no = refused(state);
-    if no != 0 {
+    let no = consistent::consistent(state);
+    if no.number != 0 {
         return Where::Refused(no);
     }
     let rows = layout::entity_words(state);
@@ -71,7 +64,7 @@ pub fn id_of(state: &[u64], cell: CellId) -> IdOf
     ensures { λ r. ⌜ idTold r ≡ idOf (now (state .entry)) cell ⌝ }
 {
     let no = cell_refused(state, cell);
-    if no != 0 {
+    if no.number != 0 {
         return IdOf::Refused(no);
     }
     let rows = layout::id_words(state);
@@ -84,7 +77,7 @@ pub fn neighbour_count(state: &[u64], cell: CellId) -> CountOf
     ensures { λ r. ⌜ countTold r ≡ countOf (now (state .entry)) cell ⌝ }
 {
     let no = cell_refused(state, cell);
-    if no != 0 {
+    if no.number != 0 {
         return CountOf::Refused(no);
     }
     let rows = layout::cell_words(state);
@@ -96,8 +89,8 @@ pub fn neighbour_count(state: &[u64], cell: CellId) -> CountOf
 pub fn group(state: &[u64], id: u64) -> GroupOf
     ensures { λ r. ⌜ groupTold r ≡ groupOf (now (state .entry)) id ⌝ }
 {
-    let no = refused(state);
-    if no != 0 {
+    let no = consistent::consistent(state);
+    if no.number != 0 {
         return GroupOf::Refused(no);
     }
     let rows = layout::group_words(state);
@@ -109,8 +102,8 @@ pub fn group(state: &[u64], id: u64) -> GroupOf
 pub fn ids(state: &[u64], answer: &mut [u64]) -> Listing
     ensures { λ r. ⌜ (listingTold r, now (answer .exit)) ≡ idsOf (now (state .entry)) (now (answer .entry)) ⌝ }
 {
-    let no = refused(state);
-    if no != 0 {
+    let no = consistent::consistent(state);
+    if no.number != 0 {
         return Listing::Refused(no);
     }
     let rows = layout::group_words(state);
@@ -122,8 +115,8 @@ pub fn ids(state: &[u64], answer: &mut [u64]) -> Listing
 pub fn newly_occupied(state: &[u64], answer: &mut [u64]) -> Listing
     ensures { λ r. ⌜ (listingTold r, now (answer .exit)) ≡ occupiedOf (now (state .entry)) (now (answer .entry)) ⌝ }
 {
-    let no = refused(state);
-    if no != 0 {
+    let no = consistent::consistent(state);
+    if no.number != 0 {
         return Listing::Refused(no);
     }
     let rows = layout::occupied_words(state);
@@ -135,8 +128,8 @@ pub fn newly_occupied(state: &[u64], answer: &mut [u64]) -> Listing
 pub fn newly_emptied(state: &[u64], answer: &mut [u64]) -> Listing
     ensures { λ r. ⌜ (listingTold r, now (answer .exit)) ≡ emptiedOf (now (state .entry)) (now (answer .entry)) ⌝ }
 {
-    let no = refused(state);
-    if no != 0 {
+    let no = consistent::consistent(state);
+    if no.number != 0 {
         return Listing::Refused(no);
     }
     let rows = layout::emptied_words(state);
@@ -149,7 +142,7 @@ pub fn entities_in(state: &[u64], cell: CellId, answer: &mut [u64]) -> Listing
     ensures { λ r. ⌜ (listingTold r, now (answer .exit)) ≡ entitiesOf (now (state .entry)) cell (now (answer .entry)) ⌝ }
 {
     let no = cell_refused(state, cell);
-    if no != 0 {
+    if no.number != 0 {
         return Listing::Refused(no);
     }
     let rows = layout::entity_words(state);
@@ -162,7 +155,7 @@ pub fn nearby(state: &[u64], cell: CellId, answer: &mut [u64]) -> Listing
     ensures { λ r. ⌜ (listingTold r, now (answer .exit)) ≡ nearbyOf (now (state .entry)) cell (now (answer .entry)) ⌝ }
 {
     let no = cell_refused(state, cell);
-    if no != 0 {
+    if no.number != 0 {
         return Listing::Refused(no);
     }
     let rows = layout::cell_words(state);
@@ -175,7 +168,7 @@ pub fn cube(state: &[u64], cell: CellId, radius: u8, answer: &mut [u64]) -> List
     ensures { λ r. ⌜ (listingTold r, now (answer .exit)) ≡ cubeOf (now (state .entry)) cell radius (now (answer .entry)) ⌝ }
 {
     let no = cell_refused(state, cell);
-    if no != 0 {
+    if no.number != 0 {
         return Listing::Refused(no);
     }
     let rows = layout::cell_words(state);
@@ -188,7 +181,7 @@ pub fn flood(state: &[u64], seed: CellId, depth: Depth, budget: u64, answer: &mu
     ensures { λ r. ⌜ (floodingTold r, now (answer .exit)) ≡ floodOf (now (state .entry)) seed depth budget (now (answer .entry)) ⌝ }
 {
     let no = cell_refused(state, seed);
-    if no != 0 {
+    if no.number != 0 {
         return Flooding::Refused(no);
     }
     let rows = layout::cell_words(state);
@@ -202,7 +195,7 @@ pub fn path(state: &[u64], from: CellId, to: CellId, answer: &mut [u64]) -> List
     ensures { λ r. ⌜ (listingTold r, now (answer .exit)) ≡ pathOf (now (state .entry)) from to (now (answer .entry)) ⌝ }
 {
     let no = cells_refused(state, from, to);
-    if no != 0 {
+    if no.number != 0 {
         return Listing::Refused(no);
     }
     let rows = layout::cell_words(state);

@@ -1,2 +1,4 @@
 pub mod Words
+pub mod Places
 pub mod Laws
+pub mod Theorems

@@ -5,15 +5,14 @@ use layout::MOST_EVENTS;
 use layout::MOST_NEXT_ID;
 use layout::MOVE_WIDTH;
 use layout::state_len;
+use refusal::Refusal;
 ghost use mathlib.Core.Path.{_≡_};
-ghost use mathlib.Core.Bool.{true, false};
-ghost use Prim.Native.Nat.{ℕ, _+_, _*_, _≤_, _<_};
+ghost use Prim.Native.Nat.{_+_, _*_, _≤_};
 ghost use lib.ListN.{length, drop};
 ghost use lib.Dec.{ltb};
-ghost use Rattle.model.specs.Lists.{all};
-ghost use Rattle.model.specs.Cells.{Cell as CellOf, cellInRange};
 ghost use Rattle.layout.specs.Widths.{moveWidth};
 ghost use Rattle.batch.specs.Words.{moveAt, movesIn, batchOf, tooShort, early};
+ghost use Rattle.batch.specs.Places.{firstOut, batchRefusal};
 
 // The cell of the move whose words stand at at.
 pub fn move_cell(batch: &[u64], at: usize) -> Cell
@@ -46,34 +45,36 @@ pub fn too_short(state: &[u64], batch: &[u64], removals: u64, moves: u64) -> boo
     !(state_len() <= state.len()) | lacks_words(batch.len(), removals, moves)
 }
 
-// Whether every move goes to a cell in range.
-fn moves_in_range(batch: &[u64], from: usize, moves: usize) -> bool
+// 4 by the first move that goes out of range; none where all are in range.
+fn first_out(batch: &[u64], from: usize, moves: usize) -> Refusal
     requires { ⌜ from + moveWidth * moves ≤ length (now batch) ⌝ }
-    ensures { λ r. ⌜ r ≡ all (λ (m : ℕ × CellOf). cellInRange (m .1)) (movesIn moves (drop from (now (batch .entry)))) ⌝ }
+    ensures { λ r. ⌜ r ≡ firstOut 0 (movesIn moves (drop from (now (batch .entry)))) ⌝ }
 {
     let mut i = 0;
     while i < moves {
-        if !component::stored_in_range(move_cell(batch, from + MOVE_WIDTH * i)) {
-            return false;
+        let c = move_cell(batch, from + MOVE_WIDTH * i);
+        if !component::stored_in_range(c) {
+            return refusal::out_of_range(i as u64, component::stored_bad_axis(c));
         }
         i += 1;
     }
-    true
+    refusal::none()
 }
 
-// 3, 4 and 5 in that order: too many events, a coordinate out of range, too few ids left; else 0.
-pub fn early_number(next: u64, batch: &[u64], removals: usize, moves: usize) -> u64
+// 3, 4 and 5 in that order: too many events, a coordinate out of range with its place, too few ids left; else none.
+pub fn early_refusal(next: u64, batch: &[u64], removals: usize, moves: usize) -> Refusal
     requires { ⌜ removals + moveWidth * moves ≤ length (now batch) ⌝ }
-    ensures { λ r. ⌜ r ≡ early next (batchOf (now (batch .entry)) removals moves) ⌝ }
+    ensures { λ r. ⌜ r ≡ batchRefusal (batchOf (now (batch .entry)) removals moves) (early next (batchOf (now (batch .entry)) removals moves)) ⌝ }
 {
     if removals + moves > MOST_EVENTS {
-        return 3;
+        return refusal::plain(3);
     }
-    if !moves_in_range(batch, removals, moves) {
-        return 4;
+    let out = first_out(batch, removals, moves);
+    if out.number != 0 {
+        return out;
     }
     if next > MOST_NEXT_ID {
-        return 5;
+        return refusal::few_ids();
     }
-    0
+    refusal::none()
 }

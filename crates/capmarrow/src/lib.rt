@@ -1,36 +1,58 @@
 // The calls for programs in C and Rust: numbers and slices alone, each slice a pointer and its length. Every function gives back
-// the documents' number; what else is told stands in `told`, and is written only where the number is 0 or 8, of a report also 10 or 11.
+// the documents' number; what else is told stands in `told`: of a refusal 0, the place of the fault and its axis, of an answer that is
+// too long 0, the words needed and 0. A `told` that is too short gives 1, and nothing is written.
 mod reports;
 
 pub use reports::capmarrow_event_of;
 ghost use mathlib.Core.Path.{_≡_};
 ghost use mathlib.Core.List.{List};
 ghost use Prim.Native.Nat.{ℕ};
+ghost use Rattle.consistent.specs.Answer.{stateRefusal};
 ghost use Rattle.fresh.specs.Answer.{freshOf};
 ghost use Rattle.yard.specs.Update.{updateOf};
 ghost use Rattle.ask.specs.Answers.{whereOf, idOf, countOf, groupOf, idsOf, occupiedOf, emptiedOf, entitiesOf, nearbyOf, cubeOf, floodOf, pathOf};
 ghost use Rattle.telling.specs.Given.{cellOf, depthGiven};
-ghost use Rattle.telling.specs.Words.{numbered, whereWords, numberWords, groupWords, listingWords, floodingWords, tells, tellsFilled};
+ghost use Rattle.telling.specs.Words.{numbered, refusalTold, whereWords, numberWords, groupWords, listingWords, floodingWords, tells, tellsFilled};
 
-// A fresh state, whose first id is given.
+// A fresh state, whose first id is given. Told: 0, 0, 0.
 #[no_mangle]
-pub extern "C" fn capmarrow_fresh(state: &mut [u64], first_id: u64) -> u64
-    ensures { λ r. ⌜ _≡_ {A = ℕ × List ℕ} (r, now (state .exit)) (freshOf (now (state .entry)) «first_id») ⌝ }
+pub extern "C" fn capmarrow_fresh(state: &mut [u64], first_id: u64, told: &mut [u64]) -> u64
+    ensures { λ r. ⌜ _≡_ {A = (ℕ × List ℕ) × List ℕ} ((r, now (told .exit)), now (state .exit)) (tellsFilled 3 refusalTold (freshOf (now (state .entry)) «first_id») (now (told .entry)) (now (state .entry))) ⌝ }
 {
-    fresh::fresh(state, first_id)
+    if told.len() < 3 {
+        return 1;
+    }
+    let r = fresh::fresh(state, first_id);
+    telling::tell_refusal(told, r)
 }
 
-// A batch of removals, one word each, and moves, five words each, updates the state.
+// A batch of removals, one word each, and moves, five words each, updates the state. Told: 0, 0, 0.
 #[no_mangle]
 pub extern "C" fn capmarrow_update(
     state: &mut [u64],
     batch: &[u64],
     removals: u64,
     moves: u64,
+    told: &mut [u64],
 ) -> u64
-    ensures { λ r. ⌜ _≡_ {A = ℕ × List ℕ} (r, now (state .exit)) (updateOf (now (state .entry)) (now (batch .entry)) removals moves) ⌝ }
+    ensures { λ r. ⌜ _≡_ {A = (ℕ × List ℕ) × List ℕ} ((r, now (told .exit)), now (state .exit)) (tellsFilled 3 refusalTold (updateOf (now (state .entry)) (now (batch .entry)) removals moves) (now (told .entry)) (now (state .entry))) ⌝ }
 {
-    yard::update(state, batch, removals, moves)
+    if told.len() < 3 {
+        return 1;
+    }
+    let r = yard::update(state, batch, removals, moves);
+    telling::tell_refusal(told, r)
+}
+
+// Whether a state is consistent: 0, or 2 and its first broken point. Told: 0, the point, 0.
+#[no_mangle]
+pub extern "C" fn capmarrow_consistent(state: &[u64], told: &mut [u64]) -> u64
+    ensures { λ r. ⌜ _≡_ {A = ℕ × List ℕ} (r, now (told .exit)) (tells 3 (refusalTold (stateRefusal (now (state .entry)))) (now (told .entry))) ⌝ }
+{
+    if told.len() < 3 {
+        return 1;
+    }
+    telling::tell_refusal(told, consistent::consistent(state))
 }
 
 // Where an entity stands. Told: found, grid, x, y, z.
@@ -54,9 +76,9 @@ pub extern "C" fn capmarrow_id_of(
     z: i32,
     told: &mut [u64],
 ) -> u64
-    ensures { λ r. ⌜ _≡_ {A = ℕ × List ℕ} (r, now (told .exit)) (tells 2 (numbered numberWords (idOf (now (state .entry)) (cellOf grid x y z))) (now (told .entry))) ⌝ }
+    ensures { λ r. ⌜ _≡_ {A = ℕ × List ℕ} (r, now (told .exit)) (tells 3 (numbered numberWords (idOf (now (state .entry)) (cellOf grid x y z))) (now (told .entry))) ⌝ }
 {
-    if told.len() < 2 {
+    if told.len() < 3 {
         return 1;
     }
     telling::tell_id(told, ask::id_of(state, telling::cell(grid, x, y, z)))
@@ -72,9 +94,9 @@ pub extern "C" fn capmarrow_neighbour_count(
     z: i32,
     told: &mut [u64],
 ) -> u64
-    ensures { λ r. ⌜ _≡_ {A = ℕ × List ℕ} (r, now (told .exit)) (tells 2 (numbered numberWords (countOf (now (state .entry)) (cellOf grid x y z))) (now (told .entry))) ⌝ }
+    ensures { λ r. ⌜ _≡_ {A = ℕ × List ℕ} (r, now (told .exit)) (tells 3 (numbered numberWords (countOf (now (state .entry)) (cellOf grid x y z))) (now (told .entry))) ⌝ }
 {
-    if told.len() < 2 {
+    if told.len() < 3 {
         return 1;
     }
     telling::tell_count(
@@ -97,9 +119,9 @@ pub extern "C" fn capmarrow_group(state: &[u64], id: u64, told: &mut [u64]) -> u
 // The ids, ascending. Told: found, count.
 #[no_mangle]
 pub extern "C" fn capmarrow_ids(state: &[u64], answer: &mut [u64], told: &mut [u64]) -> u64
-    ensures { λ r. ⌜ _≡_ {A = (ℕ × List ℕ) × List ℕ} ((r, now (told .exit)), now (answer .exit)) (tellsFilled 2 (numbered listingWords) (idsOf (now (state .entry)) (now (answer .entry))) (now (told .entry)) (now (answer .entry))) ⌝ }
+    ensures { λ r. ⌜ _≡_ {A = (ℕ × List ℕ) × List ℕ} ((r, now (told .exit)), now (answer .exit)) (tellsFilled 3 (numbered listingWords) (idsOf (now (state .entry)) (now (answer .entry))) (now (told .entry)) (now (answer .entry))) ⌝ }
 {
-    if told.len() < 2 {
+    if told.len() < 3 {
         return 1;
     }
     let a = ask::ids(state, answer);
@@ -113,9 +135,9 @@ pub extern "C" fn capmarrow_newly_occupied(
     answer: &mut [u64],
     told: &mut [u64],
 ) -> u64
-    ensures { λ r. ⌜ _≡_ {A = (ℕ × List ℕ) × List ℕ} ((r, now (told .exit)), now (answer .exit)) (tellsFilled 2 (numbered listingWords) (occupiedOf (now (state .entry)) (now (answer .entry))) (now (told .entry)) (now (answer .entry))) ⌝ }
+    ensures { λ r. ⌜ _≡_ {A = (ℕ × List ℕ) × List ℕ} ((r, now (told .exit)), now (answer .exit)) (tellsFilled 3 (numbered listingWords) (occupiedOf (now (state .entry)) (now (answer .entry))) (now (told .entry)) (now (answer .entry))) ⌝ }
 {
-    if told.len() < 2 {
+    if told.len() < 3 {
         return 1;
     }
     let a = ask::newly_occupied(state, answer);
@@ -129,9 +151,9 @@ pub extern "C" fn capmarrow_newly_emptied(
     answer: &mut [u64],
     told: &mut [u64],
 ) -> u64
-    ensures { λ r. ⌜ _≡_ {A = (ℕ × List ℕ) × List ℕ} ((r, now (told .exit)), now (answer .exit)) (tellsFilled 2 (numbered listingWords) (emptiedOf (now (state .entry)) (now (answer .entry))) (now (told .entry)) (now (answer .entry))) ⌝ }
+    ensures { λ r. ⌜ _≡_ {A = (ℕ × List ℕ) × List ℕ} ((r, now (told .exit)), now (answer .exit)) (tellsFilled 3 (numbered listingWords) (emptiedOf (now (state .entry)) (now (answer .entry))) (now (told .entry)) (now (answer .entry))) ⌝ }
 {
-    if told.len() < 2 {
+    if told.len() < 3 {
         return 1;
     }
     let a = ask::newly_emptied(state, answer);
@@ -149,9 +171,9 @@ pub extern "C" fn capmarrow_entities_in(
     answer: &mut [u64],
     told: &mut [u64],
 ) -> u64
-    ensures { λ r. ⌜ _≡_ {A = (ℕ × List ℕ) × List ℕ} ((r, now (told .exit)), now (answer .exit)) (tellsFilled 2 (numbered listingWords) (entitiesOf (now (state .entry)) (cellOf grid x y z) (now (answer .entry))) (now (told .entry)) (now (answer .entry))) ⌝ }
+    ensures { λ r. ⌜ _≡_ {A = (ℕ × List ℕ) × List ℕ} ((r, now (told .exit)), now (answer .exit)) (tellsFilled 3 (numbered listingWords) (entitiesOf (now (state .entry)) (cellOf grid x y z) (now (answer .entry))) (now (told .entry)) (now (answer .entry))) ⌝ }
 {
-    if told.len() < 2 {
+    if told.len() < 3 {
         return 1;
     }
     let a = ask::entities_in(state, telling::cell(grid, x, y, z), answer);
@@ -169,9 +191,9 @@ pub extern "C" fn capmarrow_nearby(
     answer: &mut [u64],
     told: &mut [u64],
 ) -> u64
-    ensures { λ r. ⌜ _≡_ {A = (ℕ × List ℕ) × List ℕ} ((r, now (told .exit)), now (answer .exit)) (tellsFilled 2 (numbered listingWords) (nearbyOf (now (state .entry)) (cellOf grid x y z) (now (answer .entry))) (now (told .entry)) (now (answer .entry))) ⌝ }
+    ensures { λ r. ⌜ _≡_ {A = (ℕ × List ℕ) × List ℕ} ((r, now (told .exit)), now (answer .exit)) (tellsFilled 3 (numbered listingWords) (nearbyOf (now (state .entry)) (cellOf grid x y z) (now (answer .entry))) (now (told .entry)) (now (answer .entry))) ⌝ }
 {
-    if told.len() < 2 {
+    if told.len() < 3 {
         return 1;
     }
     let a = ask::nearby(state, telling::cell(grid, x, y, z), answer);
@@ -190,9 +212,9 @@ pub extern "C" fn capmarrow_cube(
     answer: &mut [u64],
     told: &mut [u64],
 ) -> u64
-    ensures { λ r. ⌜ _≡_ {A = (ℕ × List ℕ) × List ℕ} ((r, now (told .exit)), now (answer .exit)) (tellsFilled 2 (numbered listingWords) (cubeOf (now (state .entry)) (cellOf grid x y z) radius (now (answer .entry))) (now (told .entry)) (now (answer .entry))) ⌝ }
+    ensures { λ r. ⌜ _≡_ {A = (ℕ × List ℕ) × List ℕ} ((r, now (told .exit)), now (answer .exit)) (tellsFilled 3 (numbered listingWords) (cubeOf (now (state .entry)) (cellOf grid x y z) radius (now (answer .entry))) (now (told .entry)) (now (answer .entry))) ⌝ }
 {
-    if told.len() < 2 {
+    if told.len() < 3 {
         return 1;
     }
     let a = ask::cube(state, telling::cell(grid, x, y, z), radius, answer);
@@ -243,9 +265,9 @@ pub extern "C" fn capmarrow_path(
     answer: &mut [u64],
     told: &mut [u64],
 ) -> u64
-    ensures { λ r. ⌜ _≡_ {A = (ℕ × List ℕ) × List ℕ} ((r, now (told .exit)), now (answer .exit)) (tellsFilled 2 (numbered listingWords) (pathOf (now (state .entry)) (cellOf grid x y z) (cellOf «to_grid» «to_x» «to_y» «to_z») (now (answer .entry))) (now (told .entry)) (now (answer .entry))) ⌝ }
+    ensures { λ r. ⌜ _≡_ {A = (ℕ × List ℕ) × List ℕ} ((r, now (told .exit)), now (answer .exit)) (tellsFilled 3 (numbered listingWords) (pathOf (now (state .entry)) (cellOf grid x y z) (cellOf «to_grid» «to_x» «to_y» «to_z») (now (answer .entry))) (now (told .entry)) (now (answer .entry))) ⌝ }
 {
-    if told.len() < 2 {
+    if told.len() < 3 {
         return 1;
     }
     let from = telling::cell(grid, x, y, z);

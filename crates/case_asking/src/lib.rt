@@ -17,6 +17,7 @@ use case_rows::keys;
 use case_rows::reading::ROW_LEN;
 use case_rows::reading::WORDS;
 use case_rows::writing::TEXT_LEN;
+use case_rows::writing::put_refusal;
 use case_rows::writing::put_text;
 use case_tables::drafting::cell_at;
 use component::Cell;
@@ -145,10 +146,12 @@ fn put_asked_group(out: &mut [u8; TEXT_LEN], state: &[u64], row: &[u64; ROW_LEN]
 
 // Whether a state is consistent.
 fn put_consistent(out: &mut [u8; TEXT_LEN], state: &[u64]) -> usize {
-    if consistent::consistent(state) {
+    let no = consistent::consistent(state);
+    if no.number == 0 {
         return put_text(out, 0, b"yes");
     }
-    put_text(out, 0, b"no")
+    let u = put_text(out, 0, b"refused");
+    put_refusal(out, u, no)
 }
 
 // A question is asked of a state's words, with room for so many words of an answer; how many bytes its text has.

@@ -15,9 +15,10 @@ use case_rows::words::place;
 use case_rows::words::spoil;
 use case_rows::words::wide;
 use case_rows::writing::TEXT_LEN;
-use case_rows::writing::put_number;
+use case_rows::writing::put_refusal;
 use case_rows::writing::put_text;
 use layout::MOVE_WIDTH;
+use refusal::Refusal;
 
 // How many words a batch may have here.
 pub const BATCH_LEN: usize = 8192;
@@ -92,16 +93,16 @@ fn no_events(desk: &mut [u64; DESK_LEN]) {
     desk[OFFERED] = 0;
 }
 
-// The code of a call is put, and whether words have changed although it refused.
+// The refusal of a call is put, and whether words have changed although it refused.
 fn put_code(
     out: &mut [u8; TEXT_LEN],
-    code: u64,
+    answer: Refusal,
     before: &[u64; YARD_LEN],
     state: &[u64; YARD_LEN],
 ) -> usize {
-    let u = put_text(out, 0, b"code");
-    let used = put_number(out, u, code);
-    if code == 0 || difference(before, state) == YARD_LEN {
+    let a = put_text(out, 0, b"code");
+    let used = put_refusal(out, a, answer);
+    if answer.number == 0 || difference(before, state) == YARD_LEN {
         return used;
     }
     put_text(out, used, b" and words that changed")
@@ -111,9 +112,9 @@ fn put_code(
 const NOT_SO_MANY: u64 = 999;
 
 // A fresh state is asked for in the first words.
-fn fresh_in(state: &mut [u64], n: usize, first_id: u64) -> u64 {
+fn fresh_in(state: &mut [u64], n: usize, first_id: u64) -> Refusal {
     if n > state.len() {
-        return NOT_SO_MANY;
+        return refusal::plain(NOT_SO_MANY);
     }
     fresh::fresh(&mut state[0..n], first_id)
 }
@@ -126,9 +127,9 @@ fn update_in(
     m: usize,
     removals: u64,
     moves: u64,
-) -> u64 {
+) -> Refusal {
     if n > state.len() || m > batch.len() {
-        return NOT_SO_MANY;
+        return refusal::plain(NOT_SO_MANY);
     }
     yard::update(&mut state[0..n], &batch[0..m], removals, moves)
 }
@@ -143,8 +144,8 @@ pub fn put_fresh(
     let mut before = [0u64; YARD_LEN];
     spoil(state, 0);
     copy(state, &mut before);
-    let code = fresh_in(state, place(desk[LENT]), row[0]);
-    put_code(out, code, &before, state)
+    let answer = fresh_in(state, place(desk[LENT]), row[0]);
+    put_code(out, answer, &before, state)
 }
 
 // An update by the batch is asked for; the batch is empty then.
@@ -158,7 +159,7 @@ pub fn put_update(
     copy(state, &mut before);
     let n = place(desk[LENT]);
     let m = place(desk[OFFERED]);
-    let code = update_in(state, n, batch, m, desk[REMOVALS], desk[MOVES]);
+    let answer = update_in(state, n, batch, m, desk[REMOVALS], desk[MOVES]);
     no_events(desk);
-    put_code(out, code, &before, state)
+    put_code(out, answer, &before, state)
 }

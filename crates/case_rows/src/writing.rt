@@ -1,4 +1,5 @@
 // Text is put together in a buffer; what does not fit is left out. The answer of each is how many bytes are used then.
+use refusal::Refusal;
 
 // How many bytes an answer's text may have.
 pub const TEXT_LEN: usize = 8192;
@@ -41,4 +42,20 @@ pub fn put_signed(out: &mut [u8; TEXT_LEN], used: usize, n: u64) -> usize {
     let u = put_byte(out, used, b' ');
     let v = put_byte(out, u, b'-');
     put_text(out, v, &digits[..k])
+}
+
+// A refusal is put, its number behind a space: of 2 with the point, of 4 and where else a place is told with the position and the axis.
+pub fn put_refusal(out: &mut [u8; TEXT_LEN], used: usize, r: Refusal) -> usize {
+    let u = put_number(out, used, r.number);
+    if r.number == 2 && r.axis == 0 {
+        let v = put_text(out, u, b" point");
+        return put_number(out, v, r.at);
+    }
+    if r.number == 4 || r.at != 0 || r.axis != 0 {
+        let v = put_text(out, u, b" at");
+        let w = put_number(out, v, r.at);
+        let x = put_text(out, w, b" axis");
+        return put_number(out, x, r.axis);
+    }
+    u
 }

@@ -4,6 +4,7 @@ use mathlib.Core.Bool.{Bool, _&&_}
 use mathlib.Core.Logic.{_⊎_}
 use lib.Dec.{leb}
 use Rattle.component.specs.declared.Cell.{Cell}
+use Rattle.component.specs.Coord.{firstBad}
 
 -- A stored coordinate is from -1,000,000,000 to 1,000,000,000, each 2^31 more.
 abbrev pub axisInRange : ℕ → Bool
@@ -12,6 +13,10 @@ axisInRange n = leb 1147483648 n && leb n 3147483648
 -- Each coordinate of a stored cell is in its range.
 abbrev pub cellInRange : Cell → Bool
 cellInRange c = axisInRange (c .x) && (axisInRange (c .y) && axisInRange (c .z))
+
+-- The first axis of a stored cell that is out of its range, z where x and y are in theirs.
+abbrev pub storedBadAxis : Cell → ℕ
+storedBadAxis c = firstBad (axisInRange (c .x)) (axisInRange (c .y))
 
 -- A stored coordinate is in its range, as a statement of the numbers.
 abbrev pub AxisIn : ℕ → Type 0

@@ -3,9 +3,9 @@ ghost use mathlib.Core.Path.{_≡_};
 ghost use mathlib.Core.Bool.{true};
 ghost use Prim.Native.Nat.{_<_, _≤_, min, max};
 ghost use Rattle.component.specs.Order.{same, below};
-ghost use Rattle.component.specs.Coord.{minZ, maxZ, byAxis, axisIn, coordInRange};
+ghost use Rattle.component.specs.Coord.{minZ, maxZ, byAxis, axisIn, firstBad, badAxis, coordInRange};
 ghost use Rattle.component.specs.Stored.{biased, unbiased, storedWord, signedWord, storedByAxis, stored, coordOf, cellId};
-ghost use Rattle.component.specs.Range.{axisInRange, cellInRange};
+ghost use Rattle.component.specs.Range.{axisInRange, cellInRange, storedBadAxis};
 ghost use Rattle.component.specs.Touch.{close, touches};
 ghost use Rattle.component.specs.Around.{stepN, neighbourAt, neighbourCount};
 ghost use Rattle.component.specs.Adjacent.{axisRoom, hasRoom, adjacentOf};
@@ -71,6 +71,26 @@ pub fn in_range(c: CellCoord) -> bool
     ensures { λ r. ⌜ r ≡ coordInRange c ⌝ }
 {
     axis_in(c.x) & (axis_in(c.y) & axis_in(c.z))
+}
+
+// The first axis that fails, z where x and y pass: x 0, y 1, z 2.
+pub fn first_bad(x: bool, y: bool) -> u64
+    ensures { λ r. ⌜ r ≡ firstBad x y ⌝ }
+{
+    if !x {
+        return 0;
+    }
+    if !y {
+        return 1;
+    }
+    2
+}
+
+// The first axis of coordinates that is out of its range, z where x and y are in theirs.
+pub fn bad_axis(c: CellCoord) -> u64
+    ensures { λ r. ⌜ r ≡ badAxis c ⌝ }
+{
+    first_bad(axis_in(c.x), axis_in(c.y))
 }
 
 // The stored form of a cell: its grid, and each coordinate as x + 2^31, so that cell order is the order of numbers.
@@ -154,6 +174,13 @@ pub fn stored_in_range(c: Cell) -> bool
     ensures { λ r. ⌜ r ≡ cellInRange c ⌝ }
 {
     stored_axis_in(c.x) & (stored_axis_in(c.y) & stored_axis_in(c.z))
+}
+
+// The first axis of a stored cell that is out of its range, z where x and y are in theirs.
+pub fn stored_bad_axis(c: Cell) -> u64
+    ensures { λ r. ⌜ r ≡ storedBadAxis c ⌝ }
+{
+    first_bad(stored_axis_in(c.x), stored_axis_in(c.y))
 }
 
 // The smaller of two words.

@@ -1,4 +1,4 @@
-// Whether the words of a lent state are consistent: the eight points of consistency, in their order.
+// Whether a lent state is consistent, and if not by which point: the eight points of consistency, in their order.
 use layout::CELL_COUNT;
 use layout::EMPTIED_COUNT;
 use layout::ENTITY_COUNT;
@@ -14,9 +14,11 @@ use layout::group_words;
 use layout::id_words;
 use layout::occupied_words;
 use layout::spare_words;
+use refusal::Refusal;
 ghost use mathlib.Core.Path.{_≡_};
-ghost use mathlib.Core.Bool.{true, _&&_};
-ghost use Rattle.layout.specs.Points.{longEnough, point1, point2, point3, point4, point5, point6, point7, point8, consistentWords, firstBroken};
+ghost use mathlib.Core.Bool.{true};
+ghost use Rattle.layout.specs.Points.{longEnough, point1, point2, point3, point4, point5, point6, point7, point8, firstBroken};
+ghost use Rattle.consistent.specs.Answer.{stateRefusal};
 
 // 1. Whether the entities are distinct, they and the occupied cells within number.
 fn entities_within(state: &[u64]) -> bool
@@ -147,12 +149,16 @@ fn first_broken(state: &[u64]) -> u64
     0
 }
 
-// Whether the words of a state are consistent: long enough, and no point broken.
-pub fn consistent(state: &[u64]) -> bool
-    ensures { λ r. ⌜ r ≡ (longEnough (now (state .entry)) && consistentWords (now (state .entry))) ⌝ }
+// 1 for a state that is too short, 2 with its first broken point for one that is not consistent, else none.
+pub fn consistent(state: &[u64]) -> Refusal
+    ensures { λ r. ⌜ r ≡ stateRefusal (now (state .entry)) ⌝ }
 {
     if state.len() < layout::state_len() {
-        return false;
+        return refusal::too_short();
     }
-    first_broken(state) == 0
+    let point = first_broken(state);
+    if point == 0 {
+        return refusal::none();
+    }
+    refusal::broken(point)
 }

@@ -13,13 +13,12 @@ use Rattle.floods.specs.declared.Visited.{Visited}
 use Rattle.floods.specs.declared.Flooding.{Flooding}
 use Rattle.floods.specs.declared.Depth.{Depth}
 
--- A flood: 0, whether its seed was found, the number of its cells and whether that was all; 8 and the words needed; or the number that
--- refuses.
+-- A flood: 0, whether its seed was found, the number of its cells and whether that was all; 8 and the words needed; or the refusal.
 abbrev pub floodingTold : Flooding → Told (Bool × Visited)
 floodingTold (Flooding.Found v) = done (true, v)
 floodingTold (Flooding.NotFound v) = done (false, v)
 floodingTold (Flooding.TooLong k) = tooLong k
-floodingTold (Flooding.Refused n) = refused n
+floodingTold (Flooding.Refused r) = refused r
 
 -- A depth that is given, 2^31 more, or none.
 abbrev pub depthOf : Depth → asked.Depth

@@ -3,6 +3,7 @@ use component::Cell;
 use layout::ANSWER_WIDTH;
 use layout::CELL_WIDTH;
 use layout::MOST_CELLS;
+use refusal::Refusal;
 use table::Place;
 ghost use mathlib.Core.Path.{_≡_};
 ghost use mathlib.Core.Bool.{true};
@@ -30,7 +31,7 @@ pub enum Flooding {
     Found(Visited),
     NotFound(Visited),
     TooLong(usize),
-    Refused(u64),
+    Refused(Refusal),
 }
 
 // How far a flood goes.

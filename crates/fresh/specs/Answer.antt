@@ -5,20 +5,25 @@ use mathlib.Core.Bool.{Bool, cond, not, _&&_}
 use mathlib.Core.List.{List, _++_}
 use lib.Dec.{eqb}
 use lib.ListN.{drop}
+use Rattle.refusal.specs.declared.Refusal.{Refusal}
+use Rattle.refusal.specs.Forms as form
+use Rattle.refusal.specs.Forms.{none, tooShort}
 use Rattle.model.specs.Update.{fewIds, fresh}
 use Rattle.layout.specs.State.{stateLen, encode}
 use Rattle.layout.specs.Points.{longEnough}
 
--- 1 where the words are too few, 5 where fewer than 2,048 ids are left, and both leave them as found; else 0, and the first words
+-- 1 where the words are too few, 5 where fewer than 2,048 ids are left, and both leave them as found; else none, and the first words
 -- are the image of a fresh state.
-unfoldable pub freshOf : List ℕ → ℕ → ℕ × List ℕ
+unfoldable pub freshOf : List ℕ → ℕ → Refusal × List ℕ
 freshOf w first =
-    cond (not (longEnough w)) (1, w)
-    (cond (fewIds first) (5, w)
-    (0, encode (fresh first) ++ drop stateLen w))
+    cond (not (longEnough w)) (tooShort, w)
+    (cond (fewIds first) (form.fewIds, w)
+    (none, encode (fresh first) ++ drop stateLen w))
 
--- A number is 1, 5 or 0 exactly when the tests say so: whether the words are long enough, and too few ids are left.
-pub record Exactly (n : ℕ) (long few : Bool) : Type 0 where
-  pub one : eqb n 1 ≡ not long
-  pub five : eqb n 5 ≡ (long && few)
-  pub done : eqb n 0 ≡ (long && not few)
+-- A refusal is 1, 5 or none exactly when the tests say so: whether the words are long enough, and too few ids are left; it tells no place.
+pub record Exactly (r : Refusal) (long few : Bool) : Type 0 where
+  pub one : eqb (r .number) 1 ≡ not long
+  pub five : eqb (r .number) 5 ≡ (long && few)
+  pub done : eqb (r .number) 0 ≡ (long && not few)
+  pub at : r .at ≡ 0
+  pub axis : r .axis ≡ 0

@@ -6,6 +6,7 @@ pub mod Lengths
 pub mod Parts
 pub mod Fitting
 pub mod Standing
+pub mod Broken
 pub mod Orderly
 pub mod Cut
 pub mod Tables

@@ -1,14 +1,16 @@
 -- Consistency of words: the eight points, each with the layout faults that fall under it.
-use Prim.Native.Nat.{ℕ, _*_}
-use mathlib.Core.Bool.{Bool, cond, _&&_, not}
-use mathlib.Core.List.{List}
-use lib.Dec.{leb}
+use Prim.Native.Nat.{ℕ, suc, _*_, min}
+use mathlib.Core.Bool.{Bool, cond, _&&_}
+use mathlib.Core.List.{List, [], _∷_}
+use lib.Dec.{eqb, leb}
 use lib.ListN.{length, drop}
-use Rattle.model.specs.Cells.{touch26}
+use Rattle.model.specs.Lists.{all, values}
+use Rattle.model.specs.Cells.{cellInRange, touch26}
 use Rattle.model.specs.Update.{mostEntities, mostCells}
-use Rattle.model.specs.Consistent.{withinNumber, cellsExact, masksExact, idsShared, recordsExact, idsBelowNext, coordinatesInRange, netsInOrder}
+use Rattle.model.specs.Consistent.{withinNumber, cellsExact, masksExact, idsShared, recordsExact, idsBelowNext, netsInOrder}
 use Rattle.table.specs.Rows.{areZero}
 use Rattle.layout.specs.Widths.{entityWidth, cellWidth, netWidth, idWidth, groupWidth}
+use Rattle.layout.specs.Rows.{netIn}
 use Rattle.layout.specs.State.{decode, stateLen, spareWords, entityWords, cellWords, occupiedWords, emptiedWords, idWords, groupWords, entityCount, cellCount, occupiedCount, emptiedCount, idCount, groupCount}
 
 -- Whether a table of rows of width w counts at most `most` rows and has zeros behind them.
@@ -44,9 +46,11 @@ point5 w = tidy groupWidth mostCells (groupCount w) (groupWords w) && recordsExa
 unfoldable pub point6 : List ℕ → Bool
 point6 w = idsBelowNext (decode w)
 
--- 7. Coordinates in range.
+-- 7. Coordinates in range: of the entities, and of the rows that each net list has, at most as many as its table.
 unfoldable pub point7 : List ℕ → Bool
-point7 w = coordinatesInRange (decode w)
+point7 w =
+    all cellInRange (values (decode w .occupancy .entities))
+    && (all cellInRange (netIn (min (occupiedCount w) mostCells) (occupiedWords w)) && all cellInRange (netIn (min (emptiedCount w) mostCells) (emptiedWords w)))
 
 -- 8. Net lists strictly ascending, at most 1,024 cells each, the first occupied, the second not. Here too: their rows.
 unfoldable pub point8 : List ℕ → Bool
@@ -58,19 +62,19 @@ point8 w =
 abbrev pub longEnough : List ℕ → Bool
 longEnough w = leb stateLen (length w)
 
--- Whether the words of a state are consistent: all eight, in order.
-unfoldable pub consistentWords : List ℕ → Bool
-consistentWords w =
-    point1 w && (point2 w && (point3 w && (point4 w && (point5 w && (point6 w && (point7 w && point8 w))))))
+-- The eight points in order.
+abbrev pub points : List ℕ → List Bool
+points w = point1 w ∷ point2 w ∷ point3 w ∷ point4 w ∷ point5 w ∷ point6 w ∷ point7 w ∷ point8 w ∷ []
+
+-- The number of the first that does not hold, the first of them being n; 0 where all hold.
+abbrev pub firstFrom : ℕ → List Bool → ℕ
+firstFrom n [] = 0
+firstFrom n (b ∷ bs) = cond b (firstFrom (suc n) bs) n
 
 -- The first broken point, 1 to 8; 0 where none is.
 unfoldable pub firstBroken : List ℕ → ℕ
-firstBroken w =
-    cond (not (point1 w)) 1
-    (cond (not (point2 w)) 2
-    (cond (not (point3 w)) 3
-    (cond (not (point4 w)) 4
-    (cond (not (point5 w)) 5
-    (cond (not (point6 w)) 6
-    (cond (not (point7 w)) 7
-    (cond (not (point8 w)) 8 0)))))))
+firstBroken w = firstFrom 1 (points w)
+
+-- Whether the words of a state are consistent: no point is broken.
+abbrev pub consistentWords : List ℕ → Bool
+consistentWords w = eqb (firstBroken w) 0

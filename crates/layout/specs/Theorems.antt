@@ -1,2 +1,3 @@
 pub mod DecodeEncode
 pub mod Canonical
+pub mod FirstBroken

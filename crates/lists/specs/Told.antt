@@ -8,15 +8,16 @@ use Rattle.model.specs.Lists.{gather}
 use Rattle.model.specs.Cells.{Cell}
 use Rattle.model.specs.Questions.{Listed}
 use Rattle.neighbourhood.specs.Answers.{answerWords}
+use Rattle.refusal.specs.Forms.{noPath}
 use Rattle.told.specs.Told.{Told, done, tooLong, refused, fitted}
 use Rattle.lists.specs.declared.Listing.{Listing}
 
--- A list: 0, whether what was asked for was found, and how many the list holds; 8 and the words needed; or the number that refuses.
+-- A list: 0, whether what was asked for was found, and how many the list holds; 8 and the words needed; or the refusal.
 abbrev pub listingTold : Listing → Told (Bool × ℕ)
 listingTold (Listing.Found k) = done (true, k)
 listingTold (Listing.NotFound k) = done (false, k)
 listingTold (Listing.TooLong k) = tooLong k
-listingTold (Listing.Refused n) = refused n
+listingTold (Listing.Refused r) = refused r
 
 -- A list answer: found or not, how many the list holds, and its words.
 abbrev pub listed : Bool → ℕ → List ℕ → List ℕ → Told (Bool × ℕ) × List ℕ
@@ -36,7 +37,7 @@ there l = record { found = true; list = l }
 
 -- 12 where there is no path; else how many cells it has, and their words.
 abbrev pub pathFrom : Option (List Cell) → List ℕ → Told (Bool × ℕ) × List ℕ
-pathFrom none answer = (refused 12, answer)
+pathFrom none answer = (refused noPath, answer)
 pathFrom (some p) answer = listedCells (there p) answer
 
 -- Whether there is a path.

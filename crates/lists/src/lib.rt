@@ -8,6 +8,7 @@ use layout::GROUP_WIDTH;
 use layout::MOST_CELLS;
 use layout::MOST_ENTITIES;
 use layout::NET_WIDTH;
+use refusal::Refusal;
 use table::Place;
 ghost use mathlib.Core.Path.{_≡_};
 ghost use mathlib.Core.Bool.{true};
@@ -34,7 +35,7 @@ pub enum Listing {
     Found(usize),
     NotFound(usize),
     TooLong(usize),
-    Refused(u64),
+    Refused(Refusal),
 }
 
 // A list is given if the slice for it is long enough: whether it was found, how many it holds, and the first len of words.
@@ -171,7 +172,7 @@ fn path_between(cells: &[u64], n: usize, from: usize, to: usize, answer: &mut [u
     let mut words = [0u64; ANSWER_WIDTH * MOST_CELLS];
     let k = path::path_rows(cells, n, from, to, &mut words);
     if k == 0 {
-        return Listing::Refused(12);
+        return Listing::Refused(refusal::no_path());
     }
     give(true, k, &words, ANSWER_WIDTH * k, answer)
 }
@@ -184,7 +185,7 @@ pub fn give_path(cells: &[u64], n: usize, a: Cell, b: Cell, answer: &mut [u64]) 
     let p = table::find4(cells, CELL_WIDTH, n, a);
     let q = table::find4(cells, CELL_WIDTH, n, b);
     if !table::is_found(p) | !table::is_found(q) {
-        return Listing::Refused(12);
+        return Listing::Refused(refusal::no_path());
     }
     path_between(cells, n, table::index(p), table::index(q), answer)
 }

@@ -15,29 +15,29 @@ use Rattle.lookups.specs.declared.Shown.{Shown}
 use Rattle.lookups.specs.declared.GroupOf.{GroupOf}
 use Rattle.lookups.specs.declared.Under.{Under}
 
--- Where an entity stands: 0 and the cell, 0 and none, or the number that refuses.
+-- Where an entity stands: 0 and the cell, 0 and none, or the refusal.
 abbrev pub whereTold : Where → Told (Option CellId)
 whereTold (Where.Found c) = done (some c)
 whereTold Where.NotFound = done none
-whereTold (Where.Refused n) = refused n
+whereTold (Where.Refused r) = refused r
 
--- The id of a cell: 0 and the id, 0 and none, or the number that refuses.
+-- The id of a cell: 0 and the id, 0 and none, or the refusal.
 abbrev pub idTold : IdOf → Told (Option ℕ)
 idTold (IdOf.Found g) = done (some g)
 idTold IdOf.NotFound = done none
-idTold (IdOf.Refused n) = refused n
+idTold (IdOf.Refused r) = refused r
 
--- The neighbour count of a cell: 0 and the count, 0 and none, or the number that refuses.
+-- The neighbour count of a cell: 0 and the count, 0 and none, or the refusal.
 abbrev pub countTold : CountOf → Told (Option ℕ)
 countTold (CountOf.Found k) = done (some k)
 countTold CountOf.NotFound = done none
-countTold (CountOf.Refused n) = refused n
+countTold (CountOf.Refused r) = refused r
 
--- A group: 0 and what is shown of it, 0 and none, or the number that refuses.
+-- A group: 0 and what is shown of it, 0 and none, or the refusal.
 abbrev pub groupTold : GroupOf → Told (Option Shown)
 groupTold (GroupOf.Found s) = done (some s)
 groupTold GroupOf.NotFound = done none
-groupTold (GroupOf.Refused n) = refused n
+groupTold (GroupOf.Refused r) = refused r
 
 -- The number that stands under a cell, if there is one.
 abbrev pub underCell : Under → Option ℕ

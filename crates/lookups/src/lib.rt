@@ -11,6 +11,7 @@ use layout::GROUP_HIGH;
 use layout::GROUP_LOW;
 use layout::GROUP_WIDTH;
 use layout::ID_WIDTH;
+use refusal::Refusal;
 use table::Place;
 ghost use mathlib.Core.Path.{_≡_};
 ghost use mathlib.Core.Bool.{true};
@@ -32,21 +33,21 @@ ghost use Rattle.lookups.specs.Rows.{groupAt};
 pub enum Where {
     Found(CellId),
     NotFound,
-    Refused(u64),
+    Refused(Refusal),
 }
 
 // The id of a cell.
 pub enum IdOf {
     Found(u64),
     NotFound,
-    Refused(u64),
+    Refused(Refusal),
 }
 
 // How many neighbours of a cell are occupied.
 pub enum CountOf {
     Found(u32),
     NotFound,
-    Refused(u64),
+    Refused(Refusal),
 }
 
 // What is shown of a group: its grid, its cell count, the low and the high corner.
@@ -61,7 +62,7 @@ pub struct Shown {
 pub enum GroupOf {
     Found(Shown),
     NotFound,
-    Refused(u64),
+    Refused(Refusal),
 }
 
 // The number that stands under a cell.

@@ -2,8 +2,9 @@
 use Prim.Native.Nat.{ℕ}
 use mathlib.Core.Bool.{Bool, true, cond, _&&_}
 use lib.Ieee.{Float}
+use Rattle.component.specs.Coord.{firstBad}
 use Rattle.refusal.specs.declared.Refusal.{Refusal}
-use Rattle.refusal.specs.Forms.{placed}
+use Rattle.refusal.specs.Forms.{badReport, badFrame}
 use Rattle.metres.specs.Place.{edgeOk, originOk, frameOk, errorOk, marginOk, placeOf, axisOk, axesOk, spotOf}
 use Rattle.metres.specs.declared.Frame.{Frame}
 use Rattle.metres.specs.declared.Spot.{Spot}
@@ -15,17 +16,13 @@ use Rattle.metres.specs.declared.Placing.{Placing}
 use Rattle.metres.specs.declared.Answer.{Answer}
 use Rattle.metres.specs.declared.Answer.the-variants.{Event, NoEvent, Refused}
 
--- The first axis that fails, z where x and y pass: x 0, y 1, z 2.
-abbrev pub firstBad : Bool → Bool → ℕ
-firstBad x y = cond x (cond y 2 1) 0
-
 -- 11: thing 0 is the edge, tried first, and thing 1 the origin.
 unfoldable pub frameFault : Frame → Refusal
-frameFault f = cond (edgeOk (f .edge)) (placed 11 1 (firstBad (originOk (f .x)) (originOk (f .y)))) (placed 11 0 0)
+frameFault f = cond (edgeOk (f .edge)) (badFrame 1 (firstBad (originOk (f .x)) (originOk (f .y)))) (badFrame 0 0)
 
 -- 10: thing 0 is the coordinates, tried first, and thing 1 the error.
 unfoldable pub placeFault : Frame → Float → Float → Float → Refusal
-placeFault f x y z = cond (axesOk f x y z) (placed 10 1 0) (placed 10 0 (firstBad (axisOk x (f .x)) (axisOk y (f .y))))
+placeFault f x y z = cond (axesOk f x y z) (badReport 1 0) (badReport 0 (firstBad (axisOk x (f .x)) (axisOk y (f .y))))
 
 -- The values of a report are ones that may be: 10 is for one whose values are not.
 abbrev pub reportOk : Frame → Report → Bool

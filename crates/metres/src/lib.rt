@@ -16,7 +16,7 @@ ghost use Rattle.exact.specs.Units.{metre, exact};
 ghost use Rattle.exact.specs.Finite.{Finite};
 ghost use Rattle.metres.specs.Known.{Near, Edge, EdgeIs, withSign, SideOf, OnAxis};
 ghost use Rattle.metres.specs.Place.{near, edgeOk, originOk, frameOk, errorOk, marginOk, placeOf, axisOk, axesOk, spotOf};
-ghost use Rattle.metres.specs.Answer.{firstBad, frameFault, placeFault, eventAt, placedAt, answer};
+ghost use Rattle.metres.specs.Answer.{frameFault, placeFault, eventAt, placedAt, answer};
 
 // A yard's frame: its origin, and the edge of its cells.
 pub struct Frame {
@@ -135,27 +135,14 @@ fn margin_ok(m: Margin) -> bool
     }
 }
 
-// The first axis that fails, z where x and y pass: x 0, y 1, z 2.
-fn first_bad(x: bool, y: bool) -> u64
-    ensures { λ r. ⌜ r ≡ firstBad x y ⌝ }
-{
-    if !x {
-        return 0;
-    }
-    if !y {
-        return 1;
-    }
-    2
-}
-
 // 11, by the edge or else by the origin.
 fn frame_fault(f: Frame) -> Refusal
     ensures { λ r. ⌜ r ≡ frameFault f ⌝ }
 {
     if !edge_ok(f.edge) {
-        return refusal::placed(11, 0, 0);
+        return refusal::bad_frame(0, 0);
     }
-    refusal::placed(11, 1, first_bad(origin_ok(f.x), origin_ok(f.y)))
+    refusal::bad_frame(1, component::first_bad(origin_ok(f.x), origin_ok(f.y)))
 }
 
 // An edge that is named, as a whole number.
@@ -247,9 +234,9 @@ fn place_fault(f: Frame, x: f64, y: f64, z: f64) -> Refusal
     ensures { λ r. ⌜ r ≡ placeFault f x y z ⌝ }
 {
     if axes_ok(f, x, y, z) {
-        return refusal::placed(10, 1, 0);
+        return refusal::bad_report(1, 0);
     }
-    refusal::placed(10, 0, first_bad(axis_ok(x, f.x), axis_ok(y, f.y)))
+    refusal::bad_report(0, component::first_bad(axis_ok(x, f.x), axis_ok(y, f.y)))
 }
 
 // The event of three coordinates that pass.

@@ -154,7 +154,8 @@ fn run(state: &mut [u64], removals: &[u64; MOST_EVENTS], moves: &[u64; MOVES_LEN
     let m = v.moves;
     let mut batch = [0u64; MOST_EVENTS + MOVES_LEN];
     join(&mut batch, removals, n, moves, m);
-    update(state, &batch, n as u64, m as u64)
+    let answer = update(state, &batch, n as u64, m as u64);
+    answer.number
 }
 
 // The line after which a script stops where its input ends: `open batch` where events were read, else `end`.

@@ -1,5 +1,5 @@
 -- The points of consistency that go along rows, each over the tables that it speaks of.
-use Prim.Native.Nat.{ℕ}
+use Prim.Native.Nat.{ℕ, min}
 use mathlib.Core.Bool.{Bool, _&&_, not}
 use mathlib.Core.List.{List}
 use lib.Dec.{leb}
@@ -33,10 +33,11 @@ cellsRight ents n cells m ids k =
 unfoldable pub recordsRight : List ℕ → ℕ → List ℕ → ℕ → Bool
 recordsRight ids k groups g = tidy groupWidth mostCells g groups && equal sameRecord (groupsIn g groups) (records (idsIn k ids))
 
--- 7. The cells of n entities and of both net lists are in range.
+-- 7. The cells of n entities, and of the rows that each net list has, are in range.
 unfoldable pub coordinatesRight : List ℕ → ℕ → List ℕ → ℕ → List ℕ → ℕ → Bool
 coordinatesRight ents n occ k emp l =
-    all cellInRange (values (entitiesIn n ents)) && (all cellInRange (netIn k occ) && all cellInRange (netIn l emp))
+    all cellInRange (values (entitiesIn n ents))
+    && (all cellInRange (netIn (min k mostCells) occ) && all cellInRange (netIn (min l mostCells) emp))
 
 -- 8. Both net lists ascend, have at most 1,024 cells, the first occupied, the second not.
 unfoldable pub netsRight : List ℕ → ℕ → List ℕ → ℕ → List ℕ → ℕ → Bool

@@ -17,7 +17,7 @@ use table::is_table4;
 use table::zero_from;
 ghost use mathlib.Core.Path.{_≡_};
 ghost use mathlib.Core.Bool.{true, cond, not};
-ghost use Prim.Native.Nat.{_+_, _*_, _≤_};
+ghost use Prim.Native.Nat.{_+_, _*_, _≤_, min};
 ghost use lib.ListN.{length, take};
 ghost use lib.Dec.{eqb, ltb};
 ghost use Rattle.model.specs.Lists.{all, has, equal, keys, values};
@@ -198,7 +198,14 @@ fn all_held(net: &[u64], n: usize, cells: &[u64], m: usize, wanted: bool) -> boo
     true
 }
 
-// 7. Whether the cells of n entities and of both net lists are in range.
+// How many of the rows that a table of cells counts it has.
+fn rows_there(k: usize) -> usize
+    ensures { λ r. ⌜ r ≡ min k mostCells ⌝ }
+{
+    if MOST_CELLS < k { MOST_CELLS } else { k }
+}
+
+// 7. Whether the cells of n entities, and of the rows that each net list has, are in range.
 pub fn coordinates_right(
     ents: &[u64],
     n: usize,
@@ -210,14 +217,9 @@ pub fn coordinates_right(
     requires { ⌜ (entityWidth * n ≤ length (now ents)) × (length (now occ) ≡ netWidth * mostCells) × (length (now emp) ≡ netWidth * mostCells) ⌝ }
     ensures { λ r. ⌜ r ≡ coordinatesRight (now (ents .entry)) n (now (occ .entry)) k (now (emp .entry)) l ⌝ }
 {
-    if MOST_CELLS < k {
-        return false;
-    }
-    if MOST_CELLS < l {
-        return false;
-    }
     cells_in_range(ents, ENTITY_WIDTH, ENTITY_CELL, n)
-        & (cells_in_range(occ, NET_WIDTH, 0, k) & cells_in_range(emp, NET_WIDTH, 0, l))
+        & (cells_in_range(occ, NET_WIDTH, 0, rows_there(k))
+            & cells_in_range(emp, NET_WIDTH, 0, rows_there(l)))
 }
 
 // 8. Whether both net lists ascend strictly, have at most 1,024 cells each, the first occupied, the second not.

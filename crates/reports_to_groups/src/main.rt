@@ -39,8 +39,8 @@ fn add_move(batch: &mut [u64], moves: usize, entity: u64, report: Report) -> usi
 
 // The batch is played, and the entities are told.
 fn play(state: &mut [u64], batch: &[u64], moves: usize) {
-    let number = yard::update(state, batch, 0, moves as u64);
-    telling::batch(moves as u64, number);
+    let answer = yard::update(state, batch, 0, moves as u64);
+    telling::batch(moves as u64, answer.number);
     telling::stands(state, 1);
     telling::stands(state, 2);
     telling::stands(state, 3);

@@ -43,12 +43,17 @@ pub fn none(entity: u64) {
     say(b": no event\n");
 }
 
-pub fn refused(entity: u64, r: Refusal) {
-    number(b"report of ", entity);
-    number(b": refused ", r.number);
+// A refusal: its number, and where the fault is.
+fn refusal(said: &[u8], r: Refusal) {
+    number(said, r.number);
     number(b" at ", r.at);
     number(b" axis ", r.axis);
     say(b"\n");
+}
+
+pub fn refused(entity: u64, r: Refusal) {
+    number(b"report of ", entity);
+    refusal(b": refused ", r);
 }
 
 pub fn batch(moves: u64, code: u64) {
@@ -69,7 +74,7 @@ pub fn stands(state: &[u64], entity: u64) {
             number(b"entity ", entity);
             say(b" stands nowhere\n");
         }
-        Where::Refused(n) => number(b"refused ", n),
+        Where::Refused(r) => refusal(b"refused ", r),
     }
 }
 
@@ -80,6 +85,6 @@ fn group(state: &[u64], c: CellId) {
             say(b"\n");
         }
         IdOf::NotFound => say(b" no group\n"),
-        IdOf::Refused(n) => number(b" refused ", n),
+        IdOf::Refused(r) => refusal(b" refused ", r),
     }
 }

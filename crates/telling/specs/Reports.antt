@@ -13,6 +13,7 @@ use Rattle.metres.specs.declared.Answer.{Answer}
 use Rattle.metres.specs.declared.Answer.the-variants.{Event, NoEvent, Refused}
 use Rattle.metres.specs.Numbers.{numberOf}
 use Rattle.moves.specs.Words.{moveWords}
+use Rattle.telling.specs.Words.{placeWords}
 
 -- A float by its bits; a NaN, which alone differs from itself and has many, by those of the quiet one.
 unfoldable pub bitsOf : Float → ℕ
@@ -35,12 +36,12 @@ frameOf x y z edge = record { x = x; y = y; z = z; edge = edge }
 abbrev pub reportGiven : ℕ → Float → Float → Float → Float → Report
 reportGiven kind x y z error = cond (eqb kind 1) (Fix x y z) (cond (eqb kind 2) (Reckoned x y z error) Nothing)
 
--- An event: 1, the five words of its move, the offsets, whether an error is said, and it. Of a refusal: 0, the thing, its axis.
+-- An event: 1, the five words of its move, the offsets, whether an error is said, and it. Of a refusal: its place.
 abbrev pub eventWords : Answer → List ℕ
 eventWords (Event e) =
     1 ∷ (moveWords e ++ (bitsOf (e .offsets .x) ∷ bitsOf (e .offsets .y) ∷ bitsOf (e .offsets .z) ∷ saidWord (e .margin) ∷ errorWord (e .margin) ∷ []))
 eventWords NoEvent = 0 ∷ 0 ∷ 0 ∷ 0 ∷ 0 ∷ 0 ∷ 0 ∷ 0 ∷ 0 ∷ 0 ∷ 0 ∷ []
-eventWords (Refused r) = 0 ∷ r .at ∷ r .axis ∷ []
+eventWords (Refused r) = placeWords (r .at) (r .axis)
 
 abbrev pub eventTold : Answer → ℕ × List ℕ
 eventTold a = (numberOf a, eventWords a)

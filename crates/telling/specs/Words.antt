@@ -1,5 +1,5 @@
 -- What the calls for C give back and leave in the slices lent to them: document 01's number, and the words that tell what stands beside
--- it. A slice for these words that is too short for the question gives 1, and nothing is written.
+-- it. A slice for these words that is too short for the call gives 1, and nothing is written.
 use Prim.Native.Nat.{ℕ}
 use mathlib.Core.Bool.{Bool, cond}
 use mathlib.Core.List.{List, [], _∷_, _++_}
@@ -10,7 +10,8 @@ use lib.ListN.{length, drop}
 use Rattle.component.specs.declared.CellCoord.{CellCoord}
 use Rattle.component.specs.declared.CellId.{CellId}
 use Rattle.component.specs.Stored.{biased, signedWord}
-use Rattle.told.specs.Told.{Beside, values, needed, nothing, Told}
+use Rattle.refusal.specs.declared.Refusal.{Refusal}
+use Rattle.told.specs.Told.{Beside, values, needed, place, Told}
 use Rattle.lookups.specs.declared.Shown.{Shown}
 use Rattle.floods.specs.declared.Visited.{Visited}
 
@@ -26,42 +27,46 @@ axisWords p rest = axisWord (p .x) ∷ axisWord (p .y) ∷ axisWord (p .z) ∷ r
 abbrev pub bit : Bool → ℕ
 bit b = cond b 1 0
 
+-- A place, the same for every call: 0 as nothing is found, the thing that is meant, its axis.
+abbrev pub placeWords : ℕ → ℕ → List ℕ
+placeWords at axis = 0 ∷ at ∷ axis ∷ []
+
+-- What stands beside a number: the words of the values; how many words are needed, in the form of a place; or the place.
+abbrev pub besideWords : {B : Type 0} → (B → List ℕ) → Beside B → List ℕ
+besideWords words (values v) = words v
+besideWords words (needed k) = placeWords k 0
+besideWords words (place at axis) = placeWords at axis
+
 -- The number, and the words of what stands beside it.
-abbrev pub numbered : {B : Type 0} → (Beside B → List ℕ) → Told B → ℕ × List ℕ
-numbered words t = (t .number, words (t .beside))
+abbrev pub numbered : {B : Type 0} → (B → List ℕ) → Told B → ℕ × List ℕ
+numbered words t = (t .number, besideWords words (t .beside))
+
+-- The number of a refusal, and its place; all 0 where nothing is refused.
+abbrev pub refusalTold : Refusal → ℕ × List ℕ
+refusalTold r = (r .number, placeWords (r .at) (r .axis))
 
 -- Where an entity stands: found, grid, x, y, z.
-abbrev pub whereWords : Beside (Option CellId) → List ℕ
-whereWords (values (some c)) = 1 ∷ c .grid ∷ axisWords (c .coord) []
-whereWords (values none) = 0 ∷ 0 ∷ 0 ∷ 0 ∷ 0 ∷ []
-whereWords (needed k) = []
-whereWords nothing = []
+abbrev pub whereWords : Option CellId → List ℕ
+whereWords (some c) = 1 ∷ c .grid ∷ axisWords (c .coord) []
+whereWords none = 0 ∷ 0 ∷ 0 ∷ 0 ∷ 0 ∷ []
 
 -- The id or the neighbour count of a cell: found, and it.
-abbrev pub numberWords : Beside (Option ℕ) → List ℕ
-numberWords (values (some m)) = 1 ∷ m ∷ []
-numberWords (values none) = 0 ∷ 0 ∷ []
-numberWords (needed k) = []
-numberWords nothing = []
+abbrev pub numberWords : Option ℕ → List ℕ
+numberWords (some m) = 1 ∷ m ∷ []
+numberWords none = 0 ∷ 0 ∷ []
 
 -- A group: found, grid, count, low x, y, z, high x, y, z.
-abbrev pub groupWords : Beside (Option Shown) → List ℕ
-groupWords (values (some s)) = 1 ∷ s .grid ∷ s .count ∷ axisWords (s .low) (axisWords (s .high) [])
-groupWords (values none) = 0 ∷ 0 ∷ 0 ∷ 0 ∷ 0 ∷ 0 ∷ 0 ∷ 0 ∷ 0 ∷ []
-groupWords (needed k) = []
-groupWords nothing = []
+abbrev pub groupWords : Option Shown → List ℕ
+groupWords (some s) = 1 ∷ s .grid ∷ s .count ∷ axisWords (s .low) (axisWords (s .high) [])
+groupWords none = 0 ∷ 0 ∷ 0 ∷ 0 ∷ 0 ∷ 0 ∷ 0 ∷ 0 ∷ 0 ∷ []
 
--- A list: found, how many it holds; of one that is too long the words needed stand in the second place.
-abbrev pub listingWords : Beside (Bool × ℕ) → List ℕ
-listingWords (values (found, k)) = bit found ∷ k ∷ []
-listingWords (needed k) = 0 ∷ k ∷ []
-listingWords nothing = []
+-- A list: found, how many it holds.
+abbrev pub listingWords : Bool × ℕ → List ℕ
+listingWords (found, k) = bit found ∷ k ∷ []
 
--- A flood: found, the number of its cells, whether that was all; of one that is too long the words needed stand in the second place.
-abbrev pub floodingWords : Beside (Bool × Visited) → List ℕ
-floodingWords (values (found, v)) = bit found ∷ v .number ∷ bit (v .«was_all») ∷ []
-floodingWords (needed k) = 0 ∷ k ∷ 0 ∷ []
-floodingWords nothing = []
+-- A flood: found, the number of its cells, whether that was all.
+abbrev pub floodingWords : Bool × Visited → List ℕ
+floodingWords (found, v) = bit found ∷ v .number ∷ bit (v .«was_all») ∷ []
 
 -- The words stand at the front of a slice, and the rest is as it was.
 unfoldable pub fronted : List ℕ → List ℕ → List ℕ

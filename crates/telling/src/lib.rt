@@ -10,6 +10,7 @@ use lookups::CountOf;
 use lookups::GroupOf;
 use lookups::IdOf;
 use lookups::Where;
+use refusal::Refusal;
 pub use reports::report_given;
 pub use reports::tell_event;
 ghost use mathlib.Core.Path.{_≡_};
@@ -20,7 +21,7 @@ ghost use Rattle.lookups.specs.Told.{whereTold, idTold, countTold, groupTold};
 ghost use Rattle.lists.specs.Told.{listingTold};
 ghost use Rattle.floods.specs.Told.{floodingTold};
 ghost use Rattle.telling.specs.Given.{cellOf, depthGiven};
-ghost use Rattle.telling.specs.Words.{axisWord, bit, numbered, whereWords, numberWords, groupWords, listingWords, floodingWords, fronted, telling};
+ghost use Rattle.telling.specs.Words.{axisWord, bit, placeWords, numbered, refusalTold, whereWords, numberWords, groupWords, listingWords, floodingWords, fronted, telling};
 
 // The cell of a grid number and three coordinates.
 pub fn cell(grid: u64, x: i32, y: i32, z: i32) -> CellId
@@ -64,6 +65,26 @@ fn tell(told: &mut [u64], words: &[u64])
     table::write_row(told, 0, words);
 }
 
+// What is told of a refusal, and of a call that gives no more than whether it is refused; the answer is its number.
+pub fn tell_refusal(told: &mut [u64], r: Refusal) -> u64
+    requires { ⌜ 3 ≤ length (now told) ⌝ }
+    ensures { λ n. ⌜ _≡_ {A = ℕ × List ℕ} (n, now (told .exit)) (telling (refusalTold r) (now (told .entry))) ⌝ }
+{
+    let words = [0, r.at, r.axis];
+    tell(told, &words);
+    r.number
+}
+
+// What is told of a list that is too long: the words needed; the answer is its number.
+fn tell_needed(told: &mut [u64], k: usize) -> u64
+    requires { ⌜ 3 ≤ length (now told) ⌝ }
+    ensures { λ n. ⌜ _≡_ {A = ℕ × List ℕ} (n, now (told .exit)) (telling (8, placeWords k 0) (now (told .entry))) ⌝ }
+{
+    let words = [0, k as u64, 0];
+    tell(told, &words);
+    8
+}
+
 // What is told of where an entity stands; the answer is its number.
 pub fn tell_where(told: &mut [u64], a: Where) -> u64
     requires { ⌜ 5 ≤ length (now told) ⌝ }
@@ -81,13 +102,13 @@ pub fn tell_where(told: &mut [u64], a: Where) -> u64
             tell(told, &words);
             0
         }
-        Where::Refused(n) => n,
+        Where::Refused(r) => tell_refusal(told, r),
     }
 }
 
 // What is told of a cell's id; the answer is its number.
 pub fn tell_id(told: &mut [u64], a: IdOf) -> u64
-    requires { ⌜ 2 ≤ length (now told) ⌝ }
+    requires { ⌜ 3 ≤ length (now told) ⌝ }
     ensures { λ r. ⌜ _≡_ {A = ℕ × List ℕ} (r, now (told .exit)) (telling (numbered numberWords (idTold a)) (now (told .entry))) ⌝ }
 {
     match a {
@@ -101,13 +122,13 @@ pub fn tell_id(told: &mut [u64], a: IdOf) -> u64
             tell(told, &words);
             0
         }
-        IdOf::Refused(n) => n,
+        IdOf::Refused(r) => tell_refusal(told, r),
     }
 }
 
 // What is told of a cell's neighbour count; the answer is its number.
 pub fn tell_count(told: &mut [u64], a: CountOf) -> u64
-    requires { ⌜ 2 ≤ length (now told) ⌝ }
+    requires { ⌜ 3 ≤ length (now told) ⌝ }
     ensures { λ r. ⌜ _≡_ {A = ℕ × List ℕ} (r, now (told .exit)) (telling (numbered numberWords (countTold a)) (now (told .entry))) ⌝ }
 {
     match a {
@@ -121,13 +142,13 @@ pub fn tell_count(told: &mut [u64], a: CountOf) -> u64
             tell(told, &words);
             0
         }
-        CountOf::Refused(n) => n,
+        CountOf::Refused(r) => tell_refusal(told, r),
     }
 }
 
 // What is told of a list; the answer is its number.
 pub fn tell_listing(told: &mut [u64], a: Listing) -> u64
-    requires { ⌜ 2 ≤ length (now told) ⌝ }
+    requires { ⌜ 3 ≤ length (now told) ⌝ }
     ensures { λ r. ⌜ _≡_ {A = ℕ × List ℕ} (r, now (told .exit)) (telling (numbered listingWords (listingTold a)) (now (told .entry))) ⌝ }
 {
     match a {
@@ -141,12 +162,8 @@ pub fn tell_listing(told: &mut [u64], a: Listing) -> u64
             tell(told, &words);
             0
         }
-        Listing::TooLong(k) => {
-            let words = [0, k as u64];
-            tell(told, &words);
-            8
-        }
-        Listing::Refused(n) => n,
+        Listing::TooLong(k) => tell_needed(told, k),
+        Listing::Refused(r) => tell_refusal(told, r),
     }
 }
 
@@ -166,12 +183,8 @@ pub fn tell_flooding(told: &mut [u64], a: Flooding) -> u64
             tell(told, &words);
             0
         }
-        Flooding::TooLong(k) => {
-            let words = [0, k as u64, 0];
-            tell(told, &words);
-            8
-        }
-        Flooding::Refused(n) => n,
+        Flooding::TooLong(k) => tell_needed(told, k),
+        Flooding::Refused(r) => tell_refusal(told, r),
     }
 }
 
@@ -203,6 +216,6 @@ pub fn tell_group(told: &mut [u64], a: GroupOf) -> u64
             tell(told, &words);
             0
         }
-        GroupOf::Refused(n) => n,
+        GroupOf::Refused(r) => tell_refusal(told, r),
     }
 }

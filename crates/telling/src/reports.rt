@@ -1,4 +1,5 @@
 // A report in metres as a call for C is given it, and what is told of it: floats by their bits.
+use crate::tell_refusal;
 use metres::Answer;
 use metres::Margin;
 use metres::Report;
@@ -83,10 +84,6 @@ pub fn tell_event(told: &mut [u64], a: Answer) -> u64
             table::write_row(told, 0, &words);
             0
         }
-        Answer::Refused(r) => {
-            let words = [0, r.at, r.axis];
-            table::write_row(told, 0, &words);
-            r.number
-        }
+        Answer::Refused(r) => tell_refusal(told, r),
     }
 }

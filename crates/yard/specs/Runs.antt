@@ -12,10 +12,10 @@ use Rattle.yard.specs.Update.{updateOf}
 -- Two runs of calls from fresh words that agree, one call that is done after the other, on the grid's enter and leave events; calls that are
 -- refused may stand anywhere in either.
 pub data AlikeWords (grid : ℕ) : List ℕ → List ℕ → Type 0 where
-  start : (w v : List ℕ) (first first′ : ℕ) → freshOf w first .0 ≡ 0 → freshOf v first′ .0 ≡ 0 → AlikeWords grid (freshOf w first .1) (freshOf v first′ .1)
+  start : (w v : List ℕ) (first first′ : ℕ) → freshOf w first .0 .number ≡ 0 → freshOf v first′ .0 .number ≡ 0 → AlikeWords grid (freshOf w first .1) (freshOf v first′ .1)
   next : {w v : List ℕ} (b : List ℕ) (removals moves : ℕ) (d : List ℕ) (removals′ moves′ : ℕ) → AlikeWords grid w v
-      → updateOf w b removals moves .0 ≡ 0 → updateOf v d removals′ moves′ .0 ≡ 0
+      → updateOf w b removals moves .0 .number ≡ 0 → updateOf v d removals′ moves′ .0 .number ≡ 0
       → passagesOn touch26 grid (decode w) (batchOf b removals moves) ≡ passagesOn touch26 grid (decode v) (batchOf d removals′ moves′)
       → AlikeWords grid (updateOf w b removals moves .1) (updateOf v d removals′ moves′ .1)
-  refused : {w v : List ℕ} (b : List ℕ) (removals moves : ℕ) → AlikeWords grid w v → (updateOf w b removals moves .0 ≡ 0 → ⊥) → AlikeWords grid (updateOf w b removals moves .1) v
-  refused′ : {w v : List ℕ} (d : List ℕ) (removals moves : ℕ) → AlikeWords grid w v → (updateOf v d removals moves .0 ≡ 0 → ⊥) → AlikeWords grid w (updateOf v d removals moves .1)
+  refused : {w v : List ℕ} (b : List ℕ) (removals moves : ℕ) → AlikeWords grid w v → (updateOf w b removals moves .0 .number ≡ 0 → ⊥) → AlikeWords grid (updateOf w b removals moves .1) v
+  refused′ : {w v : List ℕ} (d : List ℕ) (removals moves : ℕ) → AlikeWords grid w v → (updateOf v d removals moves .0 .number ≡ 0 → ⊥) → AlikeWords grid w (updateOf v d removals moves .1)

@@ -1,32 +1,50 @@
 -- The state is refused, or the cell, or neither.
-use mathlib.Core.Bool.{cond}
-use mathlib.Core.Path.{_∙_, sym, ap}
+use mathlib.Core.Path.{_∙_, ap}
 use borrow.Author.Needs.{needs}
-use Rattle.ask.specs.Laws.Ways.{state-way, range-way}
+use Rattle.refusal.specs.Forms.{outOfRange}
+use Rattle.ask.specs.Laws.Ways.{state-way, inside-way, outside-way}
 use Rattle.ask.proofs.cell_refused.Statement.{statement}
 use Rattle.ask.proofs.cell_refused.Tie as tie
 
-refused-requires : tie.Need-refused-requires
-refused-requires c κs = search needs
+consistent-requires : tie.Need-consistent-requires
+consistent-requires c κs = search needs
 
 returns : tie.Need-returns
-returns c = let s = c .before .before .before in state-way (s .args .state .now) (s .args .cell) (c .before .refused .result) (c .before .refused .ensures) (c .if1 .taken)
+returns c =
+    let s = c .before .before .before .before in
+    state-way (s .args .state .now) (s .args .cell) (c .before .before .consistent .result) (c .before .before .consistent .ensures) (c .if1 .taken)
 
 in-range-requires : tie.Need-in-range-requires
 in-range-requires c κs = search needs
 
+none-requires : tie.Need-none-requires
+none-requires c κs = search needs
+
 returns-2 : tie.Need-returns-2
 returns-2 c =
-    let a = c .before .before in
-    let s = a .before .before .before in
-    ap (λ b. cond b 0 4) (sym (c .if2 .taken)) ∙ range-way (s .args .state .now) (s .args .cell) (a .before .refused .result) (a .before .refused .ensures) (a .if1 .left) (c .before .in-range .result) (c .before .in-range .ensures)
+    let t = c .before .before in
+    let a = t .before in
+    let k = a .before .before in
+    let s = k .before .before in
+    c .none .ensures
+    ∙ inside-way (s .args .state .now) (s .args .cell) (k .consistent .result) (k .consistent .ensures) (a .if1 .left) (t .in-range .result) (t .in-range .ensures) (c .before .if2 .taken)
+
+bad-axis-requires : tie.Need-bad-axis-requires
+bad-axis-requires c κs = search needs
+
+out-of-range-requires : tie.Need-out-of-range-requires
+out-of-range-requires c κs = search needs
 
 returns-3 : tie.Need-returns-3
 returns-3 c =
-    let a = c .before .before in
-    let s = a .before .before .before in
-    ap (λ b. cond b 0 4) (sym (c .if2 .left)) ∙ range-way (s .args .state .now) (s .args .cell) (a .before .refused .result) (a .before .refused .ensures) (a .if1 .left) (c .before .in-range .result) (c .before .in-range .ensures)
+    let t = c .before .before .before in
+    let a = t .before in
+    let k = a .before .before in
+    let s = k .before .before in
+    c .out-of-range .ensures
+    ∙ outside-way (s .args .state .now) (s .args .cell) (k .consistent .result) (k .consistent .ensures) (a .if1 .left) (t .in-range .result) (t .in-range .ensures) (c .before .before .if2 .left) (c .before .bad-axis .result) (c .before .bad-axis .ensures)
 
 pub cell-refused-spec : {M : Type 1} → statement M
 cell-refused-spec =
-    tie.close (tie.spec refused-requires returns in-range-requires returns-2 returns-3)
+    tie.close
+    (tie.spec consistent-requires returns in-range-requires none-requires returns-2 bad-axis-requires out-of-range-requires returns-3)

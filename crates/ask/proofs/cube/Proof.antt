@@ -8,24 +8,24 @@ use Rattle.component.specs.Stored.{stored}
 use Rattle.component.specs.Range.{cellInRange}
 use Rattle.ask.specs.Laws.Listings.{cube-refused, cube-answered}
 use Rattle.ask.specs.Laws.Words.{cells-here, cells-few}
-use Rattle.ask.specs.Laws.Ways.{Sure, range-of}
+use Rattle.ask.specs.Laws.Ways.{Sure, range-by}
 use Rattle.ask.proofs.cube.Statement.{statement}
 use Rattle.ask.proofs.cube.Tie as tie
 
 -- The words are those of a consistent state, and the cell is in range.
-sure : (a : tie.Else1) → Sure (a .before .before .before .before .args .state .now)
-sure a = let s = a .before .before .before .before in range-of (s .args .state .now) (s .args .cell) (sym (a .before .cell-refused .ensures) ∙ a .if1 .left) .0
+sure : (a : tie.Else1) → Sure (a .before .before .before .before .before .args .state .now)
+sure a = let s = a .before .before .before .before .before in range-by (s .args .state .now) (s .args .cell) (a .before .before .cell-refused .result) (a .before .before .cell-refused .ensures) (a .if1 .left) .0
 
-ranged : (a : tie.Else1) → cellInRange (stored (a .before .before .before .before .args .cell)) ≡ true
-ranged a = let s = a .before .before .before .before in range-of (s .args .state .now) (s .args .cell) (sym (a .before .cell-refused .ensures) ∙ a .if1 .left) .1
+ranged : (a : tie.Else1) → cellInRange (stored (a .before .before .before .before .before .args .cell)) ≡ true
+ranged a = let s = a .before .before .before .before .before in range-by (s .args .state .now) (s .args .cell) (a .before .before .cell-refused .result) (a .before .before .cell-refused .ensures) (a .if1 .left) .1
 
 cell-refused-requires : tie.Need-cell-refused-requires
 cell-refused-requires c κs = search needs
 
 returns : tie.Need-returns
 returns c =
-    let s = c .before .before .before .before in
-    cube-refused (s .args .state .now) (s .args .cell) (s .args .answer .now) (c .before .cell-refused .result) (c .before .cell-refused .ensures) (s .args .radius) (c .if1 .taken)
+    let s = c .before .before .before .before .before in
+    cube-refused (s .args .state .now) (s .args .cell) (s .args .answer .now) (c .before .before .cell-refused .result) (c .before .before .cell-refused .ensures) (s .args .radius) (c .if1 .taken)
 
 cell-words-requires : tie.Need-cell-words-requires
 cell-words-requires c κs = sure c .long
@@ -40,7 +40,7 @@ give-cube-requires : tie.Need-give-cube-requires
 give-cube-requires c κs =
     let n = c .before .before in
     let a = n .before .before in
-    let s = a .before .before .before .before in (
+    let s = a .before .before .before .before .before in (
       cells-here (n .count-at .result) (n .before .cell-words .result .now) (s .args .state .now) (sure a) (n .count-at .ensures) (n .before .cell-words .ensures),
       ap cellInRange (c .before .stored .ensures) ∙ ranged a,
       omega (arith, cells-few (s .args .state .now) (sure a), n .count-at .ensures),
@@ -55,8 +55,8 @@ returns-2 c =
     let t = g .before .before in
     let n = t .before in
     let a = n .before .before in
-    let s = a .before .before .before .before in
-    cube-answered (s .args .state .now) (s .args .cell) (s .args .answer .now) (a .before .cell-refused .result) (a .before .cell-refused .ensures) (s .args .radius) (a .if1 .left)
+    let s = a .before .before .before .before .before in
+    cube-answered (s .args .state .now) (s .args .cell) (s .args .answer .now) (a .before .before .cell-refused .result) (a .before .before .cell-refused .ensures) (s .args .radius) (a .if1 .left)
     (n .count-at .result) (n .before .cell-words .result .now) (t .stored .result) (listingTold (g .give-cube .result), g .give-cube .last .1 .1 .1 .1 .0) (n .count-at .ensures) (n .before .cell-words .ensures) (t .stored .ensures) (g .give-cube .ensures)
 
 pub cube-spec : {M : Type 1} → statement M

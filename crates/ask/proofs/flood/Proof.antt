@@ -5,21 +5,21 @@ use borrow.Author.Needs.{needs}
 use Rattle.floods.specs.Told.{floodingTold}
 use Rattle.ask.specs.Laws.Listings.{flood-refused, flood-answered}
 use Rattle.ask.specs.Laws.Words.{cells-here, cells-few}
-use Rattle.ask.specs.Laws.Ways.{Sure, range-of}
+use Rattle.ask.specs.Laws.Ways.{Sure, range-by}
 use Rattle.ask.proofs.flood.Statement.{statement}
 use Rattle.ask.proofs.flood.Tie as tie
 
 -- The words are those of a consistent state, and the cell is in range.
-sure : (a : tie.Else1) → Sure (a .before .before .before .before .args .state .now)
-sure a = let s = a .before .before .before .before in range-of (s .args .state .now) (s .args .seed) (sym (a .before .cell-refused .ensures) ∙ a .if1 .left) .0
+sure : (a : tie.Else1) → Sure (a .before .before .before .before .before .args .state .now)
+sure a = let s = a .before .before .before .before .before in range-by (s .args .state .now) (s .args .seed) (a .before .before .cell-refused .result) (a .before .before .cell-refused .ensures) (a .if1 .left) .0
 
 cell-refused-requires : tie.Need-cell-refused-requires
 cell-refused-requires c κs = search needs
 
 returns : tie.Need-returns
 returns c =
-    let s = c .before .before .before .before in
-    flood-refused (s .args .state .now) (s .args .seed) (s .args .answer .now) (c .before .cell-refused .result) (c .before .cell-refused .ensures) (s .args .depth) (s .args .budget) (c .if1 .taken)
+    let s = c .before .before .before .before .before in
+    flood-refused (s .args .state .now) (s .args .seed) (s .args .answer .now) (c .before .before .cell-refused .result) (c .before .before .cell-refused .ensures) (s .args .depth) (s .args .budget) (c .if1 .taken)
 
 cell-words-requires : tie.Need-cell-words-requires
 cell-words-requires c κs = sure c .long
@@ -34,7 +34,7 @@ give-flood-requires : tie.Need-give-flood-requires
 give-flood-requires c κs =
     let n = c .before .before in
     let a = n .before .before in
-    let s = a .before .before .before .before in (
+    let s = a .before .before .before .before .before in (
       cells-here (n .count-at .result) (n .before .cell-words .result .now) (s .args .state .now) (sure a) (n .count-at .ensures) (n .before .cell-words .ensures),
       omega (arith, cells-few (s .args .state .now) (sure a), n .count-at .ensures),
     )
@@ -48,8 +48,8 @@ returns-2 c =
     let t = g .before .before in
     let n = t .before in
     let a = n .before .before in
-    let s = a .before .before .before .before in
-    flood-answered (s .args .state .now) (s .args .seed) (s .args .answer .now) (a .before .cell-refused .result) (a .before .cell-refused .ensures) (s .args .depth) (s .args .budget) (a .if1 .left)
+    let s = a .before .before .before .before .before in
+    flood-answered (s .args .state .now) (s .args .seed) (s .args .answer .now) (a .before .before .cell-refused .result) (a .before .before .cell-refused .ensures) (s .args .depth) (s .args .budget) (a .if1 .left)
     (n .count-at .result) (n .before .cell-words .result .now) (t .stored .result) (floodingTold (g .give-flood .result), g .give-flood .last .1 .1 .1 .1 .1 .0) (n .count-at .ensures) (n .before .cell-words .ensures) (t .stored .ensures) (g .give-flood .ensures)
 
 pub flood-spec : {M : Type 1} → statement M

@@ -11,14 +11,14 @@ use Rattle.ask.proofs.group.Statement.{statement}
 use Rattle.ask.proofs.group.Tie as tie
 
 -- The words are those of a consistent state.
-sure : (a : tie.Else1) → Sure (a .before .before .before .args .state .now)
-sure a = sure-by (a .before .before .before .args .state .now) (a .before .refused .result) (a .before .refused .ensures) (a .if1 .left)
+sure : (a : tie.Else1) → Sure (a .before .before .before .before .args .state .now)
+sure a = sure-by (a .before .before .before .before .args .state .now) (a .before .before .consistent .result) (a .before .before .consistent .ensures) (a .if1 .left)
 
-refused-requires : tie.Need-refused-requires
-refused-requires c κs = search needs
+consistent-requires : tie.Need-consistent-requires
+consistent-requires c κs = search needs
 
 returns : tie.Need-returns
-returns c = let s = c .before .before .before in group-refused (s .args .state .now) (s .args .id) (c .before .refused .result) (c .before .refused .ensures) (c .if1 .taken)
+returns c = let s = c .before .before .before .before in group-refused (s .args .state .now) (s .args .id) (c .before .before .consistent .result) (c .before .before .consistent .ensures) (c .if1 .taken)
 
 group-words-requires : tie.Need-group-words-requires
 group-words-requires c κs = sure c .long
@@ -32,15 +32,15 @@ find-group-requires c κs = (λ i. isTable1 groupWidth (c .count-at .ensures i) 
 returns-2 : tie.Need-returns-2
 returns-2 c =
     let a = c .before .before .before in
-    let s = a .before .before .before in
-    group-answered (s .args .state .now) (s .args .id) (a .before .refused .result) (a .before .refused .ensures) (a .if1 .left)
+    let s = a .before .before .before .before in
+    group-answered (s .args .state .now) (s .args .id) (a .before .before .consistent .result) (a .before .before .consistent .ensures) (a .if1 .left)
     (c .before .count-at .result) (c .before .before .group-words .result .now) (groupTold (c .find-group .result)) (c .before .count-at .ensures) (c .before .before .group-words .ensures) (c .find-group .ensures)
 
 pub group-spec : {M : Type 1} → statement M
 group-spec =
     tie.close
     (tie.spec
-    refused-requires
+    consistent-requires
     returns
     group-words-requires
     count-at-requires

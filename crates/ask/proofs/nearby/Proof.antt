@@ -5,21 +5,21 @@ use borrow.Author.Needs.{needs}
 use Rattle.lists.specs.Told.{listingTold}
 use Rattle.ask.specs.Laws.Listings.{nearby-refused, nearby-answered}
 use Rattle.ask.specs.Laws.Words.{cells-here}
-use Rattle.ask.specs.Laws.Ways.{Sure, range-of}
+use Rattle.ask.specs.Laws.Ways.{Sure, range-by}
 use Rattle.ask.proofs.nearby.Statement.{statement}
 use Rattle.ask.proofs.nearby.Tie as tie
 
 -- The words are those of a consistent state, and the cell is in range.
-sure : (a : tie.Else1) → Sure (a .before .before .before .before .args .state .now)
-sure a = let s = a .before .before .before .before in range-of (s .args .state .now) (s .args .cell) (sym (a .before .cell-refused .ensures) ∙ a .if1 .left) .0
+sure : (a : tie.Else1) → Sure (a .before .before .before .before .before .args .state .now)
+sure a = let s = a .before .before .before .before .before in range-by (s .args .state .now) (s .args .cell) (a .before .before .cell-refused .result) (a .before .before .cell-refused .ensures) (a .if1 .left) .0
 
 cell-refused-requires : tie.Need-cell-refused-requires
 cell-refused-requires c κs = search needs
 
 returns : tie.Need-returns
 returns c =
-    let s = c .before .before .before .before in
-    nearby-refused (s .args .state .now) (s .args .cell) (s .args .answer .now) (c .before .cell-refused .result) (c .before .cell-refused .ensures) (c .if1 .taken)
+    let s = c .before .before .before .before .before in
+    nearby-refused (s .args .state .now) (s .args .cell) (s .args .answer .now) (c .before .before .cell-refused .result) (c .before .before .cell-refused .ensures) (c .if1 .taken)
 
 cell-words-requires : tie.Need-cell-words-requires
 cell-words-requires c κs = sure c .long
@@ -34,7 +34,7 @@ give-nearby-requires : tie.Need-give-nearby-requires
 give-nearby-requires c κs =
     let n = c .before .before in
     let a = n .before .before in
-    let s = a .before .before .before .before in
+    let s = a .before .before .before .before .before in
     cells-here (n .count-at .result) (n .before .cell-words .result .now) (s .args .state .now) (sure a) (n .count-at .ensures) (n .before .cell-words .ensures)
 
 same-length : tie.Need-same-length
@@ -46,8 +46,8 @@ returns-2 c =
     let t = g .before .before in
     let n = t .before in
     let a = n .before .before in
-    let s = a .before .before .before .before in
-    nearby-answered (s .args .state .now) (s .args .cell) (s .args .answer .now) (a .before .cell-refused .result) (a .before .cell-refused .ensures) (a .if1 .left)
+    let s = a .before .before .before .before .before in
+    nearby-answered (s .args .state .now) (s .args .cell) (s .args .answer .now) (a .before .before .cell-refused .result) (a .before .before .cell-refused .ensures) (a .if1 .left)
     (n .count-at .result) (n .before .cell-words .result .now) (t .stored .result) (listingTold (g .give-nearby .result), g .give-nearby .last .1 .1 .1 .0) (n .count-at .ensures) (n .before .cell-words .ensures) (t .stored .ensures) (g .give-nearby .ensures)
 
 pub nearby-spec : {M : Type 1} → statement M

@@ -11,16 +11,16 @@ use Rattle.ask.proofs.newly_emptied.Statement.{statement}
 use Rattle.ask.proofs.newly_emptied.Tie as tie
 
 -- The words are those of a consistent state.
-sure : (a : tie.Else1) → Sure (a .before .before .before .before .args .state .now)
-sure a = sure-by (a .before .before .before .before .args .state .now) (a .before .refused .result) (a .before .refused .ensures) (a .if1 .left)
+sure : (a : tie.Else1) → Sure (a .before .before .before .before .before .args .state .now)
+sure a = sure-by (a .before .before .before .before .before .args .state .now) (a .before .before .consistent .result) (a .before .before .consistent .ensures) (a .if1 .left)
 
-refused-requires : tie.Need-refused-requires
-refused-requires c κs = search needs
+consistent-requires : tie.Need-consistent-requires
+consistent-requires c κs = search needs
 
 returns : tie.Need-returns
 returns c =
-    let s = c .before .before .before .before in
-    emptied-refused (s .args .state .now) (s .args .answer .now) (c .before .refused .result) (c .before .refused .ensures) (c .if1 .taken)
+    let s = c .before .before .before .before .before in
+    emptied-refused (s .args .state .now) (s .args .answer .now) (c .before .before .consistent .result) (c .before .before .consistent .ensures) (c .if1 .taken)
 
 emptied-words-requires : tie.Need-emptied-words-requires
 emptied-words-requires c κs = sure c .long
@@ -31,7 +31,7 @@ count-at-requires c κs = (sure (c .before) .long, omega arith)
 give-net-requires : tie.Need-give-net-requires
 give-net-requires c κs =
     let a = c .before .before .before in
-    let f = emptied-few (a .before .before .before .before .args .state .now) (sure a) in
+    let f = emptied-few (a .before .before .before .before .before .args .state .now) (sure a) in
     (omega (arith, f .0, c .before .count-at .ensures, ap length (c .before .before .emptied-words .ensures)), omega (arith, f .1, c .before .count-at .ensures))
 
 same-length : tie.Need-same-length
@@ -42,15 +42,15 @@ returns-2 c =
     let g = c .before .before in
     let n = g .before .before in
     let a = n .before .before in
-    let s = a .before .before .before .before in
-    emptied-answered (s .args .state .now) (s .args .answer .now) (a .before .refused .result) (a .before .refused .ensures) (a .if1 .left)
+    let s = a .before .before .before .before .before in
+    emptied-answered (s .args .state .now) (s .args .answer .now) (a .before .before .consistent .result) (a .before .before .consistent .ensures) (a .if1 .left)
     (n .count-at .result) (n .before .emptied-words .result .now) (listingTold (g .give-net .result), g .give-net .last .1 .1 .0) (n .count-at .ensures) (n .before .emptied-words .ensures) (g .give-net .ensures)
 
 pub newly-emptied-spec : {M : Type 1} → statement M
 newly-emptied-spec =
     tie.close
     (tie.spec
-    refused-requires
+    consistent-requires
     returns
     emptied-words-requires
     count-at-requires

@@ -10,16 +10,16 @@ use Rattle.ask.proofs.path.Statement.{statement}
 use Rattle.ask.proofs.path.Tie as tie
 
 -- The words are those of a consistent state.
-sure : (a : tie.Else1) → Sure (a .before .before .before .before .args .state .now)
-sure a = let s = a .before .before .before .before in both-sure (s .args .state .now) (s .args .from) (s .args .to) (sym (a .before .cells-refused .ensures) ∙ a .if1 .left)
+sure : (a : tie.Else1) → Sure (a .before .before .before .before .before .args .state .now)
+sure a = let s = a .before .before .before .before .before in both-sure (s .args .state .now) (s .args .from) (s .args .to) (a .before .before .cells-refused .result) (a .before .before .cells-refused .ensures) (a .if1 .left)
 
 cells-refused-requires : tie.Need-cells-refused-requires
 cells-refused-requires c κs = search needs
 
 returns : tie.Need-returns
 returns c =
-    let s = c .before .before .before .before in
-    path-refused (s .args .state .now) (s .args .from) (s .args .to) (s .args .answer .now) (c .before .cells-refused .result) (c .before .cells-refused .ensures) (c .if1 .taken)
+    let s = c .before .before .before .before .before in
+    path-refused (s .args .state .now) (s .args .from) (s .args .to) (s .args .answer .now) (c .before .before .cells-refused .result) (c .before .before .cells-refused .ensures) (c .if1 .taken)
 
 cell-words-requires : tie.Need-cell-words-requires
 cell-words-requires c κs = sure c .long
@@ -37,7 +37,7 @@ give-path-requires : tie.Need-give-path-requires
 give-path-requires c κs =
     let n = c .before .before .before in
     let a = n .before .before in
-    let s = a .before .before .before .before in (
+    let s = a .before .before .before .before .before in (
       cells-here (n .count-at .result) (n .before .cell-words .result .now) (s .args .state .now) (sure a) (n .count-at .ensures) (n .before .cell-words .ensures),
       omega (arith, cells-few (s .args .state .now) (sure a), n .count-at .ensures),
     )
@@ -51,8 +51,8 @@ returns-2 c =
     let t = g .before .before in
     let n = t .before .before in
     let a = n .before .before in
-    let s = a .before .before .before .before in
-    path-answered (s .args .state .now) (s .args .from) (s .args .to) (s .args .answer .now) (a .before .cells-refused .result) (a .before .cells-refused .ensures) (a .if1 .left)
+    let s = a .before .before .before .before .before in
+    path-answered (s .args .state .now) (s .args .from) (s .args .to) (s .args .answer .now) (a .before .before .cells-refused .result) (a .before .before .cells-refused .ensures) (a .if1 .left)
     (n .count-at .result) (n .before .cell-words .result .now) (t .before .stored .result) (t .stored2 .result) (listingTold (g .give-path .result), g .give-path .last .1 .1 .1 .1 .0) (n .count-at .ensures) (n .before .cell-words .ensures) (t .before .stored .ensures) (t .stored2 .ensures) (g .give-path .ensures)
 
 pub path-spec : {M : Type 1} → statement M

@@ -11,14 +11,14 @@ use Rattle.ask.proofs.where_is.Statement.{statement}
 use Rattle.ask.proofs.where_is.Tie as tie
 
 -- The words are those of a consistent state.
-sure : (a : tie.Else1) → Sure (a .before .before .before .args .state .now)
-sure a = sure-by (a .before .before .before .args .state .now) (a .before .refused .result) (a .before .refused .ensures) (a .if1 .left)
+sure : (a : tie.Else1) → Sure (a .before .before .before .before .args .state .now)
+sure a = sure-by (a .before .before .before .before .args .state .now) (a .before .before .consistent .result) (a .before .before .consistent .ensures) (a .if1 .left)
 
-refused-requires : tie.Need-refused-requires
-refused-requires c κs = search needs
+consistent-requires : tie.Need-consistent-requires
+consistent-requires c κs = search needs
 
 returns : tie.Need-returns
-returns c = let s = c .before .before .before in where-refused (s .args .state .now) (s .args .entity) (c .before .refused .result) (c .before .refused .ensures) (c .if1 .taken)
+returns c = let s = c .before .before .before .before in where-refused (s .args .state .now) (s .args .entity) (c .before .before .consistent .result) (c .before .before .consistent .ensures) (c .if1 .taken)
 
 entity-words-requires : tie.Need-entity-words-requires
 entity-words-requires c κs = sure c .long
@@ -32,15 +32,15 @@ find-entity-requires c κs = (λ i. isTable1 entityWidth (c .count-at .ensures i
 returns-2 : tie.Need-returns-2
 returns-2 c =
     let a = c .before .before .before in
-    let s = a .before .before .before in
-    where-answered (s .args .state .now) (s .args .entity) (a .before .refused .result) (a .before .refused .ensures) (a .if1 .left)
+    let s = a .before .before .before .before in
+    where-answered (s .args .state .now) (s .args .entity) (a .before .before .consistent .result) (a .before .before .consistent .ensures) (a .if1 .left)
     (c .before .count-at .result) (c .before .before .entity-words .result .now) (whereTold (c .find-entity .result)) (c .before .count-at .ensures) (c .before .before .entity-words .ensures) (c .find-entity .ensures)
 
 pub where-is-spec : {M : Type 1} → statement M
 where-is-spec =
     tie.close
     (tie.spec
-    refused-requires
+    consistent-requires
     returns
     entity-words-requires
     count-at-requires

@@ -12,46 +12,48 @@ use Rattle.model.specs.Questions.{whereIs, groupBy, onesOf, neighbourCount}
 use Rattle.model.specs.Questions as question
 use Rattle.layout.specs.Rows.{entitiesIn, cellsIn, idsIn, groupsIn}
 use Rattle.layout.specs.State.{decode, entityWords, cellWords, idWords, groupWords, entityCount, cellCount, idCount, groupCount}
+use Rattle.refusal.specs.declared.Refusal.{Refusal}
 use Rattle.told.specs.Told.{Told, done, refused, seen}
 use Rattle.told.specs.Laws.Ways.{refused-way, answered-way}
 use Rattle.lookups.specs.declared.Shown.{Shown}
 use Rattle.lookups.specs.Told.{shownOf}
-use Rattle.ask.specs.Answers.{refusal, cellRefusal, whereOf, idOf, countOf, groupOf}
+use Rattle.consistent.specs.Answer.{stateRefusal}
+use Rattle.ask.specs.Answers.{cellRefusal, whereOf, idOf, countOf, groupOf}
 
-module _ (w : List ℕ) (k no : ℕ) (e : no ≡ refusal w) where
-  pub where-refused : (no ≡ 0 → ⊥) → refused no ≡ whereOf w k
+module _ (w : List ℕ) (k : ℕ) (no : Refusal) (e : no ≡ stateRefusal w) where
+  pub where-refused : (no .number ≡ 0 → ⊥) → refused no ≡ whereOf w k
   unfolding whereOf
-  where-refused h = refused-way no (refusal w) refused (done (seen cellId (whereIs (decode w) k))) e h
+  where-refused h = refused-way no (stateRefusal w) refused (done (seen cellId (whereIs (decode w) k))) e h
 
-  pub where-answered : no ≡ 0 → (n : ℕ) (rows : List ℕ) (r : Told (Option CellId)) → n ≡ entityCount w → rows ≡ entityWords w → r ≡ done (seen cellId (get eqb (entitiesIn n rows) k)) → r ≡ whereOf w k
+  pub where-answered : no .number ≡ 0 → (n : ℕ) (rows : List ℕ) (r : Told (Option CellId)) → n ≡ entityCount w → rows ≡ entityWords w → r ≡ done (seen cellId (get eqb (entitiesIn n rows) k)) → r ≡ whereOf w k
   unfolding whereOf decode
   where-answered h n rows r p q f =
-      answered-way no (refusal w) refused (done (seen cellId (whereIs (decode w) k))) e h r (f ∙ (λ i. done (seen cellId (get eqb (entitiesIn (p i) (q i)) k))))
+      answered-way no (stateRefusal w) refused (done (seen cellId (whereIs (decode w) k))) e h r (f ∙ (λ i. done (seen cellId (get eqb (entitiesIn (p i) (q i)) k))))
 
-  pub group-refused : (no ≡ 0 → ⊥) → refused no ≡ groupOf w k
+  pub group-refused : (no .number ≡ 0 → ⊥) → refused no ≡ groupOf w k
   unfolding groupOf
-  group-refused h = refused-way no (refusal w) refused (done (seen shownOf (groupBy (decode w) k))) e h
+  group-refused h = refused-way no (stateRefusal w) refused (done (seen shownOf (groupBy (decode w) k))) e h
 
-  pub group-answered : no ≡ 0 → (n : ℕ) (rows : List ℕ) (r : Told (Option Shown)) → n ≡ groupCount w → rows ≡ groupWords w → r ≡ done (seen shownOf (get eqb (groupsIn n rows) k)) → r ≡ groupOf w k
+  pub group-answered : no .number ≡ 0 → (n : ℕ) (rows : List ℕ) (r : Told (Option Shown)) → n ≡ groupCount w → rows ≡ groupWords w → r ≡ done (seen shownOf (get eqb (groupsIn n rows) k)) → r ≡ groupOf w k
   unfolding groupOf decode
   group-answered h n rows r p q f =
-      answered-way no (refusal w) refused (done (seen shownOf (groupBy (decode w) k))) e h r (f ∙ (λ i. done (seen shownOf (get eqb (groupsIn (p i) (q i)) k))))
+      answered-way no (stateRefusal w) refused (done (seen shownOf (groupBy (decode w) k))) e h r (f ∙ (λ i. done (seen shownOf (get eqb (groupsIn (p i) (q i)) k))))
 
-module _ (w : List ℕ) (c : CellId) (no : ℕ) (e : no ≡ cellRefusal w c) where
-  pub id-refused : (no ≡ 0 → ⊥) → refused no ≡ idOf w c
+module _ (w : List ℕ) (c : CellId) (no : Refusal) (e : no ≡ cellRefusal w c) where
+  pub id-refused : (no .number ≡ 0 → ⊥) → refused no ≡ idOf w c
   unfolding idOf
   id-refused h = refused-way no (cellRefusal w c) refused (done (question.idOf (decode w) (stored c))) e h
 
-  pub id-answered : no ≡ 0 → (n : ℕ) (rows : List ℕ) (d : Cell) (r : Told (Option ℕ)) → n ≡ idCount w → rows ≡ idWords w → d ≡ stored c → r ≡ done (get same (idsIn n rows) d) → r ≡ idOf w c
+  pub id-answered : no .number ≡ 0 → (n : ℕ) (rows : List ℕ) (d : Cell) (r : Told (Option ℕ)) → n ≡ idCount w → rows ≡ idWords w → d ≡ stored c → r ≡ done (get same (idsIn n rows) d) → r ≡ idOf w c
   unfolding idOf decode
   id-answered h n rows d r p q s f =
       answered-way no (cellRefusal w c) refused (done (question.idOf (decode w) (stored c))) e h r (f ∙ (λ i. done (get same (idsIn (p i) (q i)) (s i))))
 
-  pub count-refused : (no ≡ 0 → ⊥) → refused no ≡ countOf w c
+  pub count-refused : (no .number ≡ 0 → ⊥) → refused no ≡ countOf w c
   unfolding countOf
   count-refused h = refused-way no (cellRefusal w c) refused (done (neighbourCount (decode w) (stored c))) e h
 
-  pub count-answered : no ≡ 0 → (n : ℕ) (rows : List ℕ) (d : Cell) (r : Told (Option ℕ)) → n ≡ cellCount w → rows ≡ cellWords w → d ≡ stored c → r ≡ done (onesOf (get same (cellsIn n rows) d)) → r ≡ countOf w c
+  pub count-answered : no .number ≡ 0 → (n : ℕ) (rows : List ℕ) (d : Cell) (r : Told (Option ℕ)) → n ≡ cellCount w → rows ≡ cellWords w → d ≡ stored c → r ≡ done (onesOf (get same (cellsIn n rows) d)) → r ≡ countOf w c
   unfolding countOf decode
   count-answered h n rows d r p q s f =
       answered-way no (cellRefusal w c) refused (done (neighbourCount (decode w) (stored c))) e h r (f ∙ (λ i. done (onesOf (get same (cellsIn (p i) (q i)) (s i)))))

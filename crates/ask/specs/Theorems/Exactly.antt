@@ -7,8 +7,10 @@ use mathlib.Core.Option.{Option, none, some}
 use lib.Dec.{eqb, ltb}
 use lib.ListN.{length, drop}
 use Rattle.component.specs.declared.CellId.{CellId}
-use Rattle.component.specs.Coord.{coordInRange}
+use Rattle.component.specs.Coord.{coordInRange, badAxis}
 use Rattle.component.specs.Stored.{stored, cellId}
+use Rattle.refusal.specs.declared.Refusal.{Refusal}
+use Rattle.refusal.specs.Forms as form
 use Rattle.model.specs.Lists.{has, gather}
 use Rattle.model.specs.Cells.{Cell, same, touch26}
 use Rattle.model.specs.Occupancy.{occupied}
@@ -26,8 +28,9 @@ use Rattle.lookups.specs.Told.{shownOf}
 use Rattle.lists.specs.Told.{pathFrom, isShown}
 use Rattle.floods.specs.declared.Depth.{Depth}
 use Rattle.floods.specs.Told.{visited, depthOf}
-use Rattle.ask.specs.Answers.{refusal, cellRefusal, cellsRefusal, whereOf, idOf, countOf, groupOf, idsOf, occupiedOf, emptiedOf, entitiesOf, nearbyOf, cubeOf, floodOf, pathOf}
-use Rattle.ask.specs.Laws.Told.{lookup-exactly, cell-exactly, list-exactly, cell-list-exactly}
+use Rattle.consistent.specs.Answer.{stateRefusal}
+use Rattle.ask.specs.Answers.{cellRefusal, cellsRefusal, whereOf, idOf, countOf, groupOf, idsOf, occupiedOf, emptiedOf, entitiesOf, nearbyOf, cubeOf, floodOf, pathOf}
+use Rattle.ask.specs.Laws.Told.{by-cell, lookup-exactly, cell-exactly, list-exactly, cell-list-exactly}
 
 pub where-exactly : (w : List ℕ) (e : ℕ) → Exactly (whereOf w e .number) (longEnough w) (consistentWords w) true false
 unfolding whereOf
@@ -89,20 +92,14 @@ module _ (w : List ℕ) (a b : CellId) (answer : List ℕ) where
   overlong = ltb (length answer) (length (gather answerWords (cellsOf asked)))
 
   pub path-exactly : ExactlyPath (pathOf w a b answer .0 .number) (longEnough w) (consistentWords w) (coordInRange (a .coord) && coordInRange (b .coord)) (isShown asked) overlong
-  unfolding pathOf cellsRefusal cellRefusal refusal fitted
+  unfolding pathOf cellsRefusal cellRefusal stateRefusal fitted
   path-exactly = go (longEnough w) (consistentWords w) (coordInRange (a .coord)) (coordInRange (b .coord)) asked
     where
       over : Option (List Cell) → Bool
       over o = ltb (length answer) (length (gather answerWords (cellsOf o)))
 
-      state : Bool → Bool → ℕ
-      state l g = cond (not l) 1 (cond (not g) 2 0)
-
-      first : Bool → Bool → Bool → ℕ
-      first l g i = cond (eqb (state l g) 0) (cond i 0 4) (state l g)
-
-      both : Bool → Bool → Bool → Bool → ℕ
-      both l g i j = cond (eqb (first l g i) 0) (cond j 0 4) (first l g i)
+      both : Bool → Bool → Bool → Bool → Refusal
+      both l g i j = cond (eqb (by-cell w a l g i .number) 0) (cond j form.none (form.outOfRange 1 (badAxis (b .coord)))) (by-cell w a l g i)
 
       given : List Cell → Bool → Told (Bool × ℕ) × List ℕ
       given p t = cond t (tooLong (length (gather answerWords p)), answer) (done (true, length p), gather answerWords p ++ drop (length (gather answerWords p)) answer)
@@ -112,7 +109,7 @@ module _ (w : List ℕ) (a b : CellId) (answer : List ℕ) where
       fits p false = record { one = refl; two = refl; four = refl; twelve = refl; eight = refl; zero = refl }
 
       go : (l g i j : Bool) (o : Option (List Cell))
-          → ExactlyPath (cond {A = Told (Bool × ℕ) × List ℕ} (eqb (both l g i j) 0) (pathFrom o answer) (refused (both l g i j), answer) .0 .number) l g (i && j) (isShown o) (over o)
+          → ExactlyPath (cond {A = Told (Bool × ℕ) × List ℕ} (eqb (both l g i j .number) 0) (pathFrom o answer) (refused (both l g i j), answer) .0 .number) l g (i && j) (isShown o) (over o)
       go false g i j o = record { one = refl; two = refl; four = refl; twelve = refl; eight = refl; zero = refl }
       go true false i j o = record { one = refl; two = refl; four = refl; twelve = refl; eight = refl; zero = refl }
       go true true false j o = record { one = refl; two = refl; four = refl; twelve = refl; eight = refl; zero = refl }

@@ -22,19 +22,20 @@ use Rattle.told.specs.Laws.Numbers.{list-kept}
 use Rattle.lists.specs.Told.{pathFrom}
 use Rattle.floods.specs.declared.Depth.{Depth}
 use Rattle.floods.specs.Told.{visited, depthOf}
-use Rattle.ask.specs.Answers.{refusal, cellRefusal, cellsRefusal, idsOf, occupiedOf, emptiedOf, entitiesOf, nearbyOf, cubeOf, floodOf, pathOf}
+use Rattle.consistent.specs.Answer.{stateRefusal}
+use Rattle.ask.specs.Answers.{cellRefusal, cellsRefusal, idsOf, occupiedOf, emptiedOf, entitiesOf, nearbyOf, cubeOf, floodOf, pathOf}
 
 pub ids-kept : (w answer : List ℕ) → eqb (idsOf w answer .0 .number) 0 ≡ false → idsOf w answer .1 ≡ answer
 unfolding idsOf
-ids-kept w answer = let l = idList (decode w) in list-kept (refusal w) (true, length l) l answer
+ids-kept w answer = let l = idList (decode w) in list-kept (stateRefusal w) (true, length l) l answer
 
 pub occupied-kept : (w answer : List ℕ) → eqb (occupiedOf w answer .0 .number) 0 ≡ false → occupiedOf w answer .1 ≡ answer
 unfolding occupiedOf
-occupied-kept w answer = let l = decode w .occupancy .newlyOccupied in list-kept (refusal w) (true, length l) (gather answerWords l) answer
+occupied-kept w answer = let l = decode w .occupancy .newlyOccupied in list-kept (stateRefusal w) (true, length l) (gather answerWords l) answer
 
 pub emptied-kept : (w answer : List ℕ) → eqb (emptiedOf w answer .0 .number) 0 ≡ false → emptiedOf w answer .1 ≡ answer
 unfolding emptiedOf
-emptied-kept w answer = let l = decode w .occupancy .newlyEmptied in list-kept (refusal w) (true, length l) (gather answerWords l) answer
+emptied-kept w answer = let l = decode w .occupancy .newlyEmptied in list-kept (stateRefusal w) (true, length l) (gather answerWords l) answer
 
 module _ (w : List ℕ) (c : CellId) (answer : List ℕ) where
   pub entities-kept : eqb (entitiesOf w c answer .0 .number) 0 ≡ false → entitiesOf w c answer .1 ≡ answer
@@ -58,7 +59,7 @@ module _ (w : List ℕ) (c : CellId) (answer : List ℕ) where
 module _ (w : List ℕ) (a b : CellId) (answer : List ℕ) where
   pub path-kept : eqb (pathOf w a b answer .0 .number) 0 ≡ false → pathOf w a b answer .1 ≡ answer
   unfolding pathOf fitted
-  path-kept = go (eqb (cellsRefusal w a b) 0) (shownPath touch26 (occupied (decode w .occupancy)) (stored a) (stored b))
+  path-kept = go (eqb (cellsRefusal w a b .number) 0) (shownPath touch26 (occupied (decode w .occupancy)) (stored a) (stored b))
     where
       given : List Cell → Bool → Told (Bool × ℕ) × List ℕ
       given p t = cond t (tooLong (length (gather answerWords p)), answer) (done (true, length p), gather answerWords p ++ drop (length (gather answerWords p)) answer)

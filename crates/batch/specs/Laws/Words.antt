@@ -2,7 +2,7 @@
 use Prim.Native.Nat.{ℕ, zero, suc, _+_, _*_, _-_, _/_, _<_, _≤_}
 use native.Mathlib.Omega.{arith}
 use mathlib.Core.Path.{_≡_, refl, sym, _∙_, ap}
-use mathlib.Core.Bool.{Bool, true, false, cond, not, _&&_}
+use mathlib.Core.Bool.{Bool, true, false, cond, not}
 use mathlib.Core.List.{List, [], _∷_}
 use lib.Dec.{ltb}
 use lib.ListN.{length, take, drop, getD, length-append}
@@ -63,28 +63,6 @@ module _ (b : List ℕ) (from moves : ℕ) where
   pub moves-end : (i : ℕ) → moves ≤ i → movesLeft i ≡ []
   unfolding movesIn
   moves-end i h = ap (λ (n : ℕ). movesIn n (drop (from + moveWidth * i) b)) (let e : moves - i ≡ 0 = omega arith in e)
-
--- A test of all moves, from the i-th on.
-module _ (P : ℕ × Cell → Bool) (b : List ℕ) (from moves : ℕ) where
-  abbrev pub left : ℕ → Bool
-  left i = all P (movesLeft b from moves i)
-
-  pub left-start : all P (movesIn moves (drop from b)) ≡ left 0
-  left-start = ap (all P) (moves-start b from moves)
-
-  left-step : (i : ℕ) → i < moves → left i ≡ (P (moveAt b (from + moveWidth * i)) && left (i + 1))
-  left-step i h = ap (all P) (moves-step b from moves i h)
-
-  -- A move that fails ends the test.
-  pub left-fails : (i : ℕ) → i < moves → P (moveAt b (from + moveWidth * i)) ≡ false → left i ≡ false
-  left-fails i h e = left-step i h ∙ ap (λ (t : Bool). t && left (i + 1)) e
-
-  -- A move that passes leaves the test to the others.
-  pub left-passes : (i : ℕ) → i < moves → P (moveAt b (from + moveWidth * i)) ≡ true → left i ≡ left (i + 1)
-  left-passes i h e = left-step i h ∙ ap (λ (t : Bool). t && left (i + 1)) e
-
-  pub left-end : (i : ℕ) → moves ≤ i → left i ≡ true
-  left-end i h = ap (all P) (moves-end b from moves i h)
 
 -- Words are too few where the removals alone need more.
 pub lacks-some : (n r m : ℕ) → n < r → true ≡ ltb n (r + moveWidth * m)

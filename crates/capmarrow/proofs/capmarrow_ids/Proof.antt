@@ -10,7 +10,7 @@ use Rattle.capmarrow.proofs.capmarrow_ids.Tie as tie
 returns : tie.Need-returns
 returns c =
     let s = c .before .before .before .before in
-    filled-short 2 (numbered listingWords) (idsOf (s .args .state .now) (s .args .answer .now)) (s .args .told .now) (s .args .answer .now) (c .if1 .taken)
+    filled-short 3 (numbered listingWords) (idsOf (s .args .state .now) (s .args .answer .now)) (s .args .told .now) (s .args .answer .now) (c .if1 .taken)
 
 ids-requires : tie.Need-ids-requires
 ids-requires c κs = search needs
@@ -29,7 +29,7 @@ returns-2 c =
     let t = c .before .before in
     let f = c .before .before .before .before .before .before in
     let s = c .before .before .before .before .before .before .before .before .before .before .before .before in
-    filled-long 2 (numbered listingWords) (idsOf (s .args .state .now) (s .args .answer .now)) (s .args .told .now) (s .args .answer .now) (c .before .before .before .before .before .before .before .before .if1 .left)
+    filled-long 3 (numbered listingWords) (idsOf (s .args .state .now) (s .args .answer .now)) (s .args .told .now) (s .args .answer .now) (c .before .before .before .before .before .before .before .before .if1 .left)
     (listingTold (f .ids .result)) (f .ids .last .1 .0) (f .ids .ensures)
     (t .tell-listing .result, t .tell-listing .last .0) (t .tell-listing .ensures)
 

@@ -10,7 +10,7 @@ use Rattle.capmarrow.proofs.capmarrow_newly_occupied.Tie as tie
 returns : tie.Need-returns
 returns c =
     let s = c .before .before .before .before in
-    filled-short 2 (numbered listingWords) (occupiedOf (s .args .state .now) (s .args .answer .now)) (s .args .told .now) (s .args .answer .now) (c .if1 .taken)
+    filled-short 3 (numbered listingWords) (occupiedOf (s .args .state .now) (s .args .answer .now)) (s .args .told .now) (s .args .answer .now) (c .if1 .taken)
 
 newly-occupied-requires : tie.Need-newly-occupied-requires
 newly-occupied-requires c κs = search needs
@@ -29,7 +29,7 @@ returns-2 c =
     let t = c .before .before in
     let f = c .before .before .before .before .before .before in
     let s = c .before .before .before .before .before .before .before .before .before .before .before .before in
-    filled-long 2 (numbered listingWords) (occupiedOf (s .args .state .now) (s .args .answer .now)) (s .args .told .now) (s .args .answer .now) (c .before .before .before .before .before .before .before .before .if1 .left)
+    filled-long 3 (numbered listingWords) (occupiedOf (s .args .state .now) (s .args .answer .now)) (s .args .told .now) (s .args .answer .now) (c .before .before .before .before .before .before .before .before .if1 .left)
     (listingTold (f .newly-occupied .result)) (f .newly-occupied .last .1 .0) (f .newly-occupied .ensures)
     (t .tell-listing .result, t .tell-listing .last .0) (t .tell-listing .ensures)
 

@@ -12,7 +12,7 @@ use Rattle.capmarrow.proofs.capmarrow_path.Tie as tie
 returns : tie.Need-returns
 returns c =
     let s = c .before .before .before .before in
-    filled-short 2 (numbered listingWords) (pathOf (s .args .state .now) (cellOf (s .args .grid) (s .args .x) (s .args .y) (s .args .z)) (cellOf (s .args .to-grid) (s .args .to-x) (s .args .to-y) (s .args .to-z)) (s .args .answer .now)) (s .args .told .now) (s .args .answer .now) (c .if1 .taken)
+    filled-short 3 (numbered listingWords) (pathOf (s .args .state .now) (cellOf (s .args .grid) (s .args .x) (s .args .y) (s .args .z)) (cellOf (s .args .to-grid) (s .args .to-x) (s .args .to-y) (s .args .to-z)) (s .args .answer .now)) (s .args .told .now) (s .args .answer .now) (c .if1 .taken)
 
 cell-requires : tie.Need-cell-requires
 cell-requires c κs = search needs
@@ -41,7 +41,7 @@ returns-2 c =
     let s = i .before .before .before .before in
     let p = d .before .cell .ensures ∙ cell-given (s .args .grid) (s .fits .x) (s .fits .y) (s .fits .z) in
     let q = d .cell2 .ensures ∙ cell-given (s .args .to-grid) (s .fits .to-x) (s .fits .to-y) (s .fits .to-z) in
-    filled-long 2 (numbered listingWords) (pathOf (s .args .state .now) (cellOf (s .args .grid) (s .args .x) (s .args .y) (s .args .z)) (cellOf (s .args .to-grid) (s .args .to-x) (s .args .to-y) (s .args .to-z)) (s .args .answer .now)) (s .args .told .now) (s .args .answer .now) (i .if1 .left)
+    filled-long 3 (numbered listingWords) (pathOf (s .args .state .now) (cellOf (s .args .grid) (s .args .x) (s .args .y) (s .args .z)) (cellOf (s .args .to-grid) (s .args .to-x) (s .args .to-y) (s .args .to-z)) (s .args .answer .now)) (s .args .told .now) (s .args .answer .now) (i .if1 .left)
     (listingTold (f .path .result)) (f .path .last .1 .1 .1 .0) (f .path .ensures ∙ (λ k. pathOf (s .args .state .now) (p k) (q k) (s .args .answer .now)))
     (t .tell-listing .result, t .tell-listing .last .0) (t .tell-listing .ensures)
 

@@ -4,7 +4,7 @@ use mathlib.Core.Bool.{true}
 use borrow.Author.Tests.{not-true, not-false}
 use borrow.Author.Needs.{needs}
 use Rattle.layout.specs.Points.{point1, point2, point3, point4, point5, point6, point7, point8}
-use Rattle.consistent.specs.Laws.Ways.{broken1, broken2, broken3, broken4, broken5, broken6, broken7, broken8, unbroken}
+use Rattle.layout.specs.Laws.Broken.{broken1, broken2, broken3, broken4, broken5, broken6, broken7, broken8, unbroken}
 use Rattle.consistent.proofs.first_broken.Statement.{statement}
 use Rattle.consistent.proofs.first_broken.Tie as tie
 

@@ -2,7 +2,8 @@
 use Prim.Native.Nat.{ℕ}
 use mathlib.Core.Path.{_≡_, refl}
 use mathlib.Core.Bool.{Bool, true, false}
-use Rattle.told.specs.Told.{Beside, values, needed, nothing, Told}
+use Rattle.refusal.specs.Forms.{placed}
+use Rattle.told.specs.Told.{Beside, values, needed, place, Told}
 use Rattle.floods.specs.declared.Visited.{Visited}
 use Rattle.floods.specs.declared.Flooding.{Flooding}
 use Rattle.floods.specs.Told.{floodingTold}
@@ -12,7 +13,7 @@ answerOf : ℕ → Beside (Bool × Visited) → Flooding
 answerOf n (values (true, v)) = Flooding.Found v
 answerOf n (values (false, v)) = Flooding.NotFound v
 answerOf n (needed k) = Flooding.TooLong k
-answerOf n nothing = Flooding.Refused n
+answerOf n (place at axis) = Flooding.Refused (placed n at axis)
 
 pub floodingBack : Told (Bool × Visited) → Flooding
 floodingBack t = answerOf (t .number) (t .beside)
@@ -23,4 +24,4 @@ unfolding floodingBack answerOf
 flooding-back (Flooding.Found v) = refl
 flooding-back (Flooding.NotFound v) = refl
 flooding-back (Flooding.TooLong k) = refl
-flooding-back (Flooding.Refused n) = refl
+flooding-back (Flooding.Refused r) = refl

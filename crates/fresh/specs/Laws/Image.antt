@@ -6,6 +6,8 @@ use mathlib.Core.Bool.{true, false, cond, not}
 use mathlib.Core.List.{List, _∷_, _++_}
 use lib.ListN.{length, drop, set, replicate, length-replicate, replicate-append-replicate}
 use borrow.Author.Tests.{le-leb, lt-leb, lt-ltb, le-ltb}
+use Rattle.refusal.specs.Forms as form
+use Rattle.refusal.specs.Forms.{none, tooShort}
 use Rattle.model.specs.Update.{lastNext, fewIds, fresh}
 use Rattle.table.specs.Moves.{over}
 use Rattle.layout.specs.Widths.{headerLen, nextIdAt, spare}
@@ -64,28 +66,28 @@ header-within = omega (arith, all-words)
 
 module _ (w : List ℕ) (first n : ℕ) (e : n ≡ stateLen) where
   -- Too few words.
-  pub fresh-short : length w < n → (1, w) ≡ freshOf w first
+  pub fresh-short : length w < n → (tooShort, w) ≡ freshOf w first
   unfolding freshOf
   fresh-short h =
       let l : longEnough w ≡ false = lt-leb stateLen (length w) (omega arith) in
-      λ i. cond (not (sym l i)) (1, w) (cond (fewIds first) (5, w) (0, encode (fresh first) ++ drop stateLen w))
+      λ i. cond (not (sym l i)) (tooShort, w) (cond (fewIds first) (form.fewIds, w) (none, encode (fresh first) ++ drop stateLen w))
 
   module _ (h : n ≤ length w) where
     long-enough : longEnough w ≡ true
     long-enough = le-leb stateLen (length w) (omega arith)
 
     -- Too few ids.
-    pub fresh-late : lastNext < first → (5, w) ≡ freshOf w first
+    pub fresh-late : lastNext < first → (form.fewIds, w) ≡ freshOf w first
     unfolding freshOf
     fresh-late k =
-        λ i. cond (not (sym long-enough i)) (1, w)
-        (cond (sym (lt-ltb lastNext first k) i) (5, w) (0, encode (fresh first) ++ drop stateLen w))
+        λ i. cond (not (sym long-enough i)) (tooShort, w)
+        (cond (sym (lt-ltb lastNext first k) i) (form.fewIds, w) (none, encode (fresh first) ++ drop stateLen w))
 
     -- A fresh state.
-    pub fresh-done : first ≤ lastNext → (v : List ℕ) → v ≡ over w 0 (replicate n 0) → (0, set v nextIdAt first) ≡ freshOf w first
+    pub fresh-done : first ≤ lastNext → (v : List ℕ) → v ≡ over w 0 (replicate n 0) → (none, set v nextIdAt first) ≡ freshOf w first
     unfolding freshOf
     fresh-done k v f =
-        ap (λ (l : List ℕ). (0, set l nextIdAt first)) (f ∙ ap (λ (m : ℕ). over w 0 (replicate m 0)) e)
-        ∙ ap (λ (l : List ℕ). (0, l)) (fresh-image w first)
-        ∙ (λ i. cond (not (sym long-enough i)) (1, w)
-        (cond (sym (le-ltb lastNext first k) i) (5, w) (0, encode (fresh first) ++ drop stateLen w)))
+        ap (λ (l : List ℕ). (none, set l nextIdAt first)) (f ∙ ap (λ (m : ℕ). over w 0 (replicate m 0)) e)
+        ∙ ap (λ (l : List ℕ). (none, l)) (fresh-image w first)
+        ∙ (λ i. cond (not (sym long-enough i)) (tooShort, w)
+        (cond (sym (le-ltb lastNext first k) i) (form.fewIds, w) (none, encode (fresh first) ++ drop stateLen w)))

@@ -1,18 +1,24 @@
 -- The eight points of consistent words say that the tables are tidy and that the state they stand for is consistent.
-use Prim.Native.Nat.{ℕ}
-use mathlib.Core.Path.{_≡_}
+use Prim.Native.Nat.{ℕ, _*_, _≤_, min}
+use native.Mathlib.Omega.{arith}
+use mathlib.Core.Path.{_≡_, sym, ap, _∙_}
 use mathlib.Core.Bool.{Bool, true, _&&_}
 use mathlib.Core.List.{List}
 use lib.Dec.{leb}
+use lib.ListN.{drop}
+use borrow.Author.Tests.{leb-true}
 use Rattle.component.specs.Laws.Tests.{and-in, both}
-use Rattle.model.specs.Cells.{touch26}
+use Rattle.model.specs.Lists.{all, values}
+use Rattle.model.specs.Cells.{cellInRange, touch26}
 use Rattle.model.specs.Update.{State, mostEntities, mostCells}
 use Rattle.model.specs.Consistent.{withinNumber, cellsExact, masksExact, idsShared, recordsExact, idsBelowNext, coordinatesInRange, netsInOrder}
 use Rattle.table.specs.Rows.{areZero}
 use Rattle.layout.specs.Widths.{entityWidth, cellWidth, netWidth, idWidth, groupWidth}
+use Rattle.layout.specs.Rows.{netIn}
 use Rattle.layout.specs.State.{decode, spareWords, entityWords, cellWords, occupiedWords, emptiedWords, idWords, groupWords, entityCount, cellCount, occupiedCount, emptiedCount, idCount, groupCount}
 use Rattle.layout.specs.Points.{tidy, point1, point2, point3, point4, point5, point6, point7, point8, consistentWords}
 use Rattle.layout.specs.Facts.{Orderly}
+use Rattle.layout.specs.Laws.Broken.{all-points}
 
 module _ (w : List ℕ) where
   abbrev s : State
@@ -81,11 +87,24 @@ module _ (w : List ℕ) where
   abbrev emps-ok : Bool
   emps-ok = tidy netWidth mostCells (emptiedCount w) (emptiedWords w)
 
+  -- A net list that its table has space for is read whole.
+  whole : (n : ℕ) (l : List ℕ) → tidy netWidth mostCells n l ≡ true → netIn (min n mostCells) l ≡ netIn n l
+  whole n l e =
+      let h : n ≤ mostCells = leb-true n mostCells (both (leb n mostCells) (areZero (drop (netWidth * n) l)) e .0) in
+      ap (λ (k : ℕ). netIn k l) (let f : min n mostCells ≡ n = omega arith in f)
+
+  -- Then point 7 is that of the yard.
+  ranged : occs-ok ≡ true → emps-ok ≡ true → point7 w ≡ coordinatesInRange s
+  unfolding point7 decode
+  ranged p q =
+      λ i. all cellInRange (values (s .occupancy .entities))
+      && (all cellInRange (whole (occupiedCount w) (occupiedWords w) p i) && all cellInRange (whole (emptiedCount w) (emptiedWords w) q i))
+
   -- Consistent words are orderly.
   pub orderly-out : consistentWords w ≡ true → Orderly w
-  unfolding consistentWords point1 point2 point3 point4 point5 point6 point7 point8
+  unfolding point1 point2 point3 point4 point5 point6 point8
   orderly-out e =
-      let p1 = both (point1 w) from2 e in
+      let p1 = both (point1 w) from2 (sym (all-points w) ∙ e) in
       let p2 = both (point2 w) from3 (p1 .1) in
       let p3 = both (point3 w) from4 (p2 .1) in
       let p4 = both (point4 w) from5 (p3 .1) in
@@ -116,12 +135,12 @@ module _ (w : List ℕ) where
             (and-in (idsShared touch26 s) of5 (p4 .0)
             (and-in (recordsExact s) of6 (d1 .1)
             (and-in (idsBelowNext s) of7 (p6 .0)
-            (and-in (coordinatesInRange s) (netsInOrder s) (p7 .0) (h2 .1)))))));
+            (and-in (coordinatesInRange s) (netsInOrder s) (sym (ranged (h1 .0) (h2 .0)) ∙ p7 .0) (h2 .1)))))));
       }
 
   -- Orderly words are consistent.
   pub orderly-in : Orderly w → consistentWords w ≡ true
-  unfolding consistentWords point1 point2 point3 point4 point5 point6 point7 point8
+  unfolding point1 point2 point3 point4 point5 point6 point8
   orderly-in o =
       let p1 = both (withinNumber s) of2 (o .yard) in
       let p2 = both (cellsExact s) of3 (p1 .1) in
@@ -130,7 +149,7 @@ module _ (w : List ℕ) where
       let p5 = both (recordsExact s) of6 (p4 .1) in
       let p6 = both (idsBelowNext s) of7 (p5 .1) in
       let p7 = both (coordinatesInRange s) (netsInOrder s) (p6 .1) in
-      and-in (point1 w) from2
+      all-points w ∙ and-in (point1 w) from2
       (and-in spare-ok (ents-ok && (few-ok && withinNumber s)) (o .spare-zero)
       (and-in ents-ok (few-ok && withinNumber s) (o .entity-rows) (and-in few-ok (withinNumber s) (o .cell-few) (p1 .0))))
       (and-in (point2 w) from3
@@ -139,5 +158,5 @@ module _ (w : List ℕ) where
       (and-in (point4 w) from5 (p4 .0)
       (and-in (point5 w) from6 (and-in groups-ok (recordsExact s) (o .group-rows) (p5 .0))
       (and-in (point6 w) from7 (p6 .0)
-      (and-in (point7 w) (point8 w) (p7 .0)
+      (and-in (point7 w) (point8 w) (ranged (o .occupied-rows) (o .emptied-rows) ∙ p7 .0)
       (and-in occs-ok (emps-ok && netsInOrder s) (o .occupied-rows) (and-in emps-ok (netsInOrder s) (o .emptied-rows) (p7 .1)))))))))

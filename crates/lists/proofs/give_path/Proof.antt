@@ -1,7 +1,7 @@
 -- Both cells are found, and the path is that between their rows.
 use Prim.Native.Nat.{_<_}
 use mathlib.Core.Bool.{not, _||_}
-use mathlib.Core.Path.{_≡_, sym, _∙_}
+use mathlib.Core.Path.{_≡_, sym, ap, _∙_}
 use borrow.Author.Needs.{needs}
 use Rattle.model.specs.Lists.{keys}
 use Rattle.model.specs.Cells.{touch26}
@@ -9,7 +9,9 @@ use Rattle.model.specs.Shortest.{shownPath}
 use Rattle.layout.specs.Rows.{cellsIn}
 use Rattle.neighbourhood.specs.Rows.{rowCell}
 use Rattle.neighbourhood.specs.Laws.Reads.{cells-table}
-use Rattle.lists.specs.Told.{pathFrom}
+use Rattle.refusal.specs.declared.Refusal.{Refusal}
+use Rattle.lists.specs.declared.Listing.{Listing}
+use Rattle.lists.specs.Told.{listingTold, pathFrom}
 use Rattle.lists.specs.Laws.Paths.{path-missing, both-rows}
 use Rattle.lists.proofs.give_path.Statement.{statement}
 use Rattle.lists.proofs.give_path.Tie as tie
@@ -37,12 +39,16 @@ is-found-requires c κs = search needs
 is-found-requires-2 : tie.Need-is-found-requires-2
 is-found-requires-2 c κs = search needs
 
+no-path-requires : tie.Need-no-path-requires
+no-path-requires c κs = search needs
+
 returns : tie.Need-returns
 returns c =
-    let q = c .before .before .before in
+    let q = c .before .before .before .before in
     let s = q .before .before .before .before in
-    path-missing (s .args .cells .now) (s .args .n) (cellsIn (s .args .n) (s .args .cells .now)) (s .pre .0) (s .args .a) (s .args .b) (q .before .find4 .result) (q .find42 .result) (q .before .find4 .ensures) (q .find42 .ensures) (s .args .answer .now)
-    ((λ k. not (sym (c .before .before .is-found .ensures) k) || not (sym (c .before .is-found2 .ensures) k)) ∙ c .if1 .taken)
+    ap (λ (r : Refusal). (listingTold (Listing.Refused r), s .args .answer .now)) (c .no-path .ensures)
+    ∙ path-missing (s .args .cells .now) (s .args .n) (cellsIn (s .args .n) (s .args .cells .now)) (s .pre .0) (s .args .a) (s .args .b) (q .before .find4 .result) (q .find42 .result) (q .before .find4 .ensures) (q .find42 .ensures) (s .args .answer .now)
+    ((λ k. not (sym (c .before .before .before .is-found .ensures) k) || not (sym (c .before .before .is-found2 .ensures) k)) ∙ c .before .if1 .taken)
 
 index-requires : tie.Need-index-requires
 index-requires c κs = search needs
@@ -77,6 +83,7 @@ give-path-spec =
     find4-requires-2
     is-found-requires
     is-found-requires-2
+    no-path-requires
     returns
     index-requires
     index-requires-2

@@ -1,13 +1,16 @@
 -- The cells of the path are written aside and given, or there is none.
 use Prim.Native.Nat.{ℕ, _*_, _≤_}
 use native.Mathlib.Omega.{arith}
-use mathlib.Core.Path.{sym, _∙_}
+use mathlib.Core.Path.{sym, ap, _∙_}
 use lib.ListN.{length, replicate, length-replicate}
 use borrow.Author.Needs.{needs}
 use Rattle.model.specs.Update.{mostCells}
 use Rattle.layout.specs.Rows.{cellsIn}
 use Rattle.path.specs.Walks.{Walked}
 use Rattle.layout.specs.Widths.{answerWidth}
+use Rattle.refusal.specs.declared.Refusal.{Refusal}
+use Rattle.lists.specs.declared.Listing.{Listing}
+use Rattle.lists.specs.Told.{listingTold}
 use Rattle.lists.specs.Laws.Paths.{path-no, path-yes}
 use Rattle.lists.proofs.path_between.Statement.{statement}
 use Rattle.lists.proofs.path_between.Tie as tie
@@ -32,11 +35,15 @@ path-rows-requires c κs =
     let s = c .before .before .before in
     (record { table = cellsIn (s .args .n) (s .args .cells .now); cells = s .pre .0 }, s .pre .1, s .pre .2, s .pre .3, omega (arith, s .pre .3, length-replicate {A = ℕ} (answerWidth * mostCells) 0))
 
+no-path-requires : tie.Need-no-path-requires
+no-path-requires c κs = search needs
+
 returns : tie.Need-returns
 returns c =
-    let w = c .before .before in
+    let w = c .before .before .before in
     let s = start w in
-    path-no (s .args .cells .now) (s .args .n) (cellsIn (s .args .n) (s .args .cells .now)) (s .pre .0) (s .args .from) (s .args .to) (replicate (answerWidth * mostCells) 0) _ (w .path-rows .result) (told w) (s .args .answer .now) (c .if1 .taken)
+    ap (λ (r : Refusal). (listingTold (Listing.Refused r), s .args .answer .now)) (c .no-path .ensures)
+    ∙ path-no (s .args .cells .now) (s .args .n) (cellsIn (s .args .n) (s .args .cells .now)) (s .pre .0) (s .args .from) (s .args .to) (replicate (answerWidth * mostCells) 0) _ (w .path-rows .result) (told w) (s .args .answer .now) (c .before .if1 .taken)
 
 slice-aggregate-give : tie.Need-slice-aggregate-give
 slice-aggregate-give c = sym (c .before .before .before .path-rows .kept .1 .1 .1 .1 .0)
@@ -65,6 +72,7 @@ path-between-spec =
     (tie.spec
     slice-aggregate-path-rows
     path-rows-requires
+    no-path-requires
     returns
     slice-aggregate-give
     mul-give

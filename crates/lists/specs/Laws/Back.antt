@@ -2,7 +2,8 @@
 use Prim.Native.Nat.{ℕ}
 use mathlib.Core.Path.{_≡_, refl}
 use mathlib.Core.Bool.{Bool, true, false}
-use Rattle.told.specs.Told.{Beside, values, needed, nothing, Told}
+use Rattle.refusal.specs.Forms.{placed}
+use Rattle.told.specs.Told.{Beside, values, needed, place, Told}
 use Rattle.lists.specs.declared.Listing.{Listing}
 use Rattle.lists.specs.Told.{listingTold}
 
@@ -11,7 +12,7 @@ answerOf : ℕ → Beside (Bool × ℕ) → Listing
 answerOf n (values (true, k)) = Listing.Found k
 answerOf n (values (false, k)) = Listing.NotFound k
 answerOf n (needed k) = Listing.TooLong k
-answerOf n nothing = Listing.Refused n
+answerOf n (place at axis) = Listing.Refused (placed n at axis)
 
 pub listingBack : Told (Bool × ℕ) → Listing
 listingBack t = answerOf (t .number) (t .beside)
@@ -22,4 +23,4 @@ unfolding listingBack answerOf
 listing-back (Listing.Found k) = refl
 listing-back (Listing.NotFound k) = refl
 listing-back (Listing.TooLong k) = refl
-listing-back (Listing.Refused n) = refl
+listing-back (Listing.Refused r) = refl

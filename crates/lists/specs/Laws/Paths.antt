@@ -24,6 +24,7 @@ use Rattle.neighbourhood.specs.Standing.{Cells}
 use Rattle.neighbourhood.specs.Laws.Reads.{cells-keys, cells-table, row-for}
 use Rattle.path.specs.Walks.{cellsOf, shownRows, Walked}
 use Rattle.path.specs.Laws.Walking.{no-cells, some-cells}
+use Rattle.refusal.specs.Forms.{noPath}
 use Rattle.told.specs.Told.{refused}
 use Rattle.lists.specs.Told.{listed, there, pathFrom}
 use Rattle.lists.specs.Laws.Gives.{cells-listed}
@@ -44,7 +45,7 @@ module _ (words : List ℕ) (n : ℕ) (t : List (Cell × ℕ)) (k : Cells words 
 
   module _ (a b : Cell) (p q : Place) (e : p ≡ placeOf below (keys (table4 cellWidth n words)) a) (f : q ≡ placeOf below (keys (table4 cellWidth n words)) b) (answer : List ℕ) where
     -- From or to a cell that is not found there is no path.
-    pub path-missing : (not (isFound p) || not (isFound q)) ≡ true → (refused 12, answer) ≡ pathFrom (shownPath touch26 (keys t) a b) answer
+    pub path-missing : (not (isFound p) || not (isFound q)) ≡ true → (refused noPath, answer) ≡ pathFrom (shownPath touch26 (keys t) a b) answer
     path-missing h = ap (λ (o : Option (List Cell)). pathFrom o answer) (sym (go (isFound p) (isFound q) refl refl h))
       where
         go : (x y : Bool) → isFound p ≡ x → isFound q ≡ y → (not x || not y) ≡ true → shownPath touch26 (keys t) a b ≡ Option.none
@@ -63,7 +64,7 @@ module _ (words : List ℕ) (n : ℕ) (t : List (Cell × ℕ)) (k : Cells words 
 
   module _ (from to : ℕ) (space space′ : List ℕ) (r : ℕ) (w : Walked words n from to space r space′ t) (answer : List ℕ) where
     -- No cell is written.
-    pub path-no : r ≡ 0 → (refused 12, answer) ≡ pathFrom (shownRows words t from to) answer
+    pub path-no : r ≡ 0 → (refused noPath, answer) ≡ pathFrom (shownRows words t from to) answer
     path-no e = ap (λ (o : Option (List Cell)). pathFrom o answer) (sym (no-cells touch26 (keys t) (rowCell words from) (rowCell words to) (sym (w .number) ∙ e)))
 
     -- The cells that are written are given.

@@ -3,7 +3,9 @@ use Prim.Native.Nat.{ℕ}
 use mathlib.Core.Path.{_≡_, refl}
 use mathlib.Core.Option.{Option, none, some}
 use Rattle.component.specs.declared.CellId.{CellId}
-use Rattle.told.specs.Told.{Beside, values, needed, nothing, Told}
+use Rattle.refusal.specs.declared.Refusal.{Refusal}
+use Rattle.refusal.specs.Forms.{placed}
+use Rattle.told.specs.Told.{Beside, values, needed, place, Told}
 use Rattle.lookups.specs.declared.Where.{Where}
 use Rattle.lookups.specs.declared.IdOf.{IdOf}
 use Rattle.lookups.specs.declared.CountOf.{CountOf}
@@ -12,11 +14,11 @@ use Rattle.lookups.specs.declared.GroupOf.{GroupOf}
 use Rattle.lookups.specs.Told.{whereTold, idTold, countTold, groupTold}
 
 -- The answer of which a number and what stands beside it are told: found, not found, or refused.
-answerOf : {A B : Type 0} → (B → A) → A → (ℕ → A) → ℕ → Beside (Option B) → A
+answerOf : {A B : Type 0} → (B → A) → A → (Refusal → A) → ℕ → Beside (Option B) → A
 answerOf found missing refuse n (values (some b)) = found b
 answerOf found missing refuse n (values none) = missing
 answerOf found missing refuse n (needed k) = missing
-answerOf found missing refuse n nothing = refuse n
+answerOf found missing refuse n (place at axis) = refuse (placed n at axis)
 
 -- The way back for each lookup.
 pub whereBack : Told (Option CellId) → Where
@@ -36,22 +38,22 @@ pub where-back : (a : Where) → whereBack (whereTold a) ≡ a
 unfolding whereBack answerOf
 where-back (Where.Found c) = refl
 where-back Where.NotFound = refl
-where-back (Where.Refused n) = refl
+where-back (Where.Refused r) = refl
 
 pub id-back : (a : IdOf) → idBack (idTold a) ≡ a
 unfolding idBack answerOf
 id-back (IdOf.Found g) = refl
 id-back IdOf.NotFound = refl
-id-back (IdOf.Refused n) = refl
+id-back (IdOf.Refused r) = refl
 
 pub count-back : (a : CountOf) → countBack (countTold a) ≡ a
 unfolding countBack answerOf
 count-back (CountOf.Found k) = refl
 count-back CountOf.NotFound = refl
-count-back (CountOf.Refused n) = refl
+count-back (CountOf.Refused r) = refl
 
 pub group-back : (a : GroupOf) → groupBack (groupTold a) ≡ a
 unfolding groupBack answerOf
 group-back (GroupOf.Found s) = refl
 group-back GroupOf.NotFound = refl
-group-back (GroupOf.Refused n) = refl
+group-back (GroupOf.Refused r) = refl

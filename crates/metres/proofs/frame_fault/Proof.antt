@@ -2,7 +2,7 @@
 use borrow.Author.Needs.{needs}
 use borrow.Author.Tests.{not-true, not-false}
 use mathlib.Core.Path.{_∙_, sym}
-use Rattle.metres.specs.Answer.{firstBad}
+use Rattle.component.specs.Coord.{firstBad}
 use Rattle.metres.specs.Laws.Answer.{frame-by-edge, frame-by-origin}
 use Rattle.metres.proofs.frame_fault.Statement.{statement}
 use Rattle.metres.proofs.frame_fault.Tie as tie
@@ -10,13 +10,13 @@ use Rattle.metres.proofs.frame_fault.Tie as tie
 edge-ok-requires : tie.Need-edge-ok-requires
 edge-ok-requires c κs = search needs
 
-placed-requires : tie.Need-placed-requires
-placed-requires c κs = search needs
+bad-frame-requires : tie.Need-bad-frame-requires
+bad-frame-requires c κs = search needs
 
 returns : tie.Need-returns
 returns c =
     let e = c .before .before in
-    c .placed .ensures ∙ frame-by-edge (e .before .args .f) (sym (e .edge-ok .ensures) ∙ not-true (e .edge-ok .result) (c .before .if1 .taken))
+    c .bad-frame .ensures ∙ frame-by-edge (e .before .args .f) (sym (e .edge-ok .ensures) ∙ not-true (e .edge-ok .result) (c .before .if1 .taken))
 
 origin-ok-requires : tie.Need-origin-ok-requires
 origin-ok-requires c κs = search needs
@@ -27,15 +27,15 @@ origin-ok-requires-2 c κs = search needs
 first-bad-requires : tie.Need-first-bad-requires
 first-bad-requires c κs = search needs
 
-placed-requires-2 : tie.Need-placed-requires-2
-placed-requires-2 c κs = search needs
+bad-frame-requires-2 : tie.Need-bad-frame-requires-2
+bad-frame-requires-2 c κs = search needs
 
 returns-2 : tie.Need-returns-2
 returns-2 c =
     let y = c .before .before in
     let x = y .before in
     let e = x .before .before in
-    c .placed2 .ensures
+    c .bad-frame2 .ensures
     ∙ frame-by-origin (e .before .args .f) (c .before .first-bad .result) (sym (e .edge-ok .ensures) ∙ not-false (e .edge-ok .result) (x .before .if1 .left))
     (c .before .first-bad .ensures ∙ (λ i. firstBad (x .origin-ok .ensures i) (y .origin-ok2 .ensures i)))
 
@@ -44,10 +44,10 @@ frame-fault-spec =
     tie.close
     (tie.spec
     edge-ok-requires
-    placed-requires
+    bad-frame-requires
     returns
     origin-ok-requires
     origin-ok-requires-2
     first-bad-requires
-    placed-requires-2
+    bad-frame-requires-2
     returns-2)

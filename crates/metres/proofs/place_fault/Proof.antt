@@ -1,7 +1,7 @@
 -- `metres::place_fault` meets its contract.
 use borrow.Author.Needs.{needs}
 use mathlib.Core.Path.{_∙_, sym}
-use Rattle.metres.specs.Answer.{firstBad}
+use Rattle.component.specs.Coord.{firstBad}
 use Rattle.metres.specs.Laws.Answer.{frame-x, frame-y, place-by-error, place-by-axis}
 use Rattle.metres.proofs.place_fault.Statement.{statement}
 use Rattle.metres.proofs.place_fault.Tie as tie
@@ -9,14 +9,14 @@ use Rattle.metres.proofs.place_fault.Tie as tie
 axes-ok-requires : tie.Need-axes-ok-requires
 axes-ok-requires c κs = c .pre
 
-placed-requires : tie.Need-placed-requires
-placed-requires c κs = search needs
+bad-report-requires : tie.Need-bad-report-requires
+bad-report-requires c κs = search needs
 
 returns : tie.Need-returns
 returns c =
     let a = c .before .before in
     let s = a .before in
-    c .placed .ensures ∙ place-by-error (s .args .f) (s .args .x) (s .args .y) (s .args .z) (sym (a .axes-ok .ensures) ∙ c .before .if1 .taken)
+    c .bad-report .ensures ∙ place-by-error (s .args .f) (s .args .x) (s .args .y) (s .args .z) (sym (a .axes-ok .ensures) ∙ c .before .if1 .taken)
 
 axis-ok-requires : tie.Need-axis-ok-requires
 axis-ok-requires c κs = let s = c .before .before in (search needs, record { fits = search needs; finite = frame-x (s .args .f) (s .pre) })
@@ -27,8 +27,8 @@ axis-ok-requires-2 c κs = let s = c .before .before .before in (search needs, r
 first-bad-requires : tie.Need-first-bad-requires
 first-bad-requires c κs = search needs
 
-placed-requires-2 : tie.Need-placed-requires-2
-placed-requires-2 c κs = search needs
+bad-report-requires-2 : tie.Need-bad-report-requires-2
+bad-report-requires-2 c κs = search needs
 
 returns-2 : tie.Need-returns-2
 returns-2 c =
@@ -36,7 +36,7 @@ returns-2 c =
     let x = y .before in
     let a = x .before .before in
     let s = a .before in
-    c .placed2 .ensures
+    c .bad-report2 .ensures
     ∙ place-by-axis (s .args .f) (s .args .x) (s .args .y) (s .args .z) (c .before .first-bad .result) (sym (a .axes-ok .ensures) ∙ x .before .if1 .left)
     (c .before .first-bad .ensures ∙ (λ i. firstBad (x .axis-ok .ensures i) (y .axis-ok2 .ensures i)))
 
@@ -45,10 +45,10 @@ place-fault-spec =
     tie.close
     (tie.spec
     axes-ok-requires
-    placed-requires
+    bad-report-requires
     returns
     axis-ok-requires
     axis-ok-requires-2
     first-bad-requires
-    placed-requires-2
+    bad-report-requires-2
     returns-2)

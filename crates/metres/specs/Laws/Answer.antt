@@ -6,13 +6,14 @@ use lib.Dec.{T, eqb}
 use lib.IntN.{natAbs}
 use lib.Ieee.{Float, nan, inf, fin}
 use lib.Ieee.Scale.{finite}
+use Rattle.component.specs.Coord.{firstBad}
 use Rattle.component.specs.Laws.Tests.{both}
 use Rattle.refusal.specs.declared.Refusal.{Refusal}
 use Rattle.refusal.specs.Forms.{placed}
 use Rattle.exact.specs.Units.{metre, exact}
 use Rattle.exact.specs.Laws.Tests.{true-T}
 use Rattle.metres.specs.Place.{near, edgeOk, originOk, frameOk, marginOk, placeOf, axisOk, axesOk, spotOf}
-use Rattle.metres.specs.Answer.{firstBad, frameFault, placeFault, placing, eventAt, placedAt, made, answer}
+use Rattle.metres.specs.Answer.{frameFault, placeFault, placing, eventAt, placedAt, made, answer}
 use Rattle.metres.specs.declared.Frame.{Frame}
 use Rattle.metres.specs.declared.Spot.{Spot}
 use Rattle.metres.specs.declared.Margin.{Margin}

@@ -3,9 +3,10 @@ use mathlib.Core.Path.{_≡_, refl, sym, _∙_, subst}
 use Prim.Native.Nat.{ℕ}
 use mathlib.Core.Bool.{Bool, true, false, cond, _&&_}
 use lib.Ieee.{Float}
+use Rattle.component.specs.Coord.{firstBad}
 use Rattle.refusal.specs.Forms.{placed}
 use Rattle.metres.specs.Place.{edgeOk, originOk, frameOk, marginOk, axisOk, axesOk}
-use Rattle.metres.specs.Answer.{firstBad, frameFault, placeFault, reportOk, eventAt, placedAt, made, answer}
+use Rattle.metres.specs.Answer.{frameFault, placeFault, reportOk, eventAt, placedAt, made, answer}
 use Rattle.metres.specs.Numbers.{numberOf, reportAt, Exactly}
 use Rattle.metres.specs.Laws.Told.{answer-number, frame-off, frame-on, made-at, place-off}
 use Rattle.metres.specs.declared.Frame.{Frame}

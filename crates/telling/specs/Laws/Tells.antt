@@ -3,7 +3,7 @@ use Prim.Native.Nat.{ℕ, _+_, _≤_, _<_}
 use native.Mathlib.Omega.{arith}
 use mathlib.Core.Path.{_≡_, sym, ap, _∙_}
 use mathlib.Core.Bool.{Bool, cond}
-use mathlib.Core.List.{List, [], _++_}
+use mathlib.Core.List.{List, _++_}
 use lib.IntN.{ℤ}
 use lib.ListN.{length, drop}
 use mir.Syntax.{w32}
@@ -30,10 +30,9 @@ module _ {A : Type 0} (t : A → ℕ × List ℕ) (a b : A) (e : a ≡ b) (told 
   telling-by last words f g =
       ap (λ (l : List ℕ). (t b .0, l)) (f ∙ ap (λ (w : List ℕ). fronted w told) g) ∙ ap (λ (x : A). telling (t x) told) (sym e)
 
-  -- An answer of no words leaves the slice.
-  pub telling-none : t b .1 ≡ [] → _≡_ {A = ℕ × List ℕ} (t b .0, told) (telling (t a) told)
-  unfolding fronted
-  telling-none g = ap (λ (w : List ℕ). (t b .0, fronted w told)) (sym g) ∙ ap (λ (x : A). telling (t x) told) (sym e)
+  -- The words of an answer are told by another function.
+  pub telling-so : (p : ℕ × List ℕ) → p ≡ telling (t b) told → p ≡ telling (t a) told
+  telling-so p f = f ∙ ap (λ (x : A). telling (t x) told) (sym e)
 
 module _ (most : ℕ) (a : ℕ × List ℕ) (told : List ℕ) where
   -- A slice that is too short.

@@ -1,15 +1,19 @@
--- The two ways to an answer: a number refuses, or none does.
+-- The two ways to an answer: it is refused, or it is not.
 use Prim.Native.Nat.{ℕ}
 use mathlib.Core.Path.{_≡_, sym, ap, _∙_}
 use lib.Dec.{eqb}
 use Rattle.model.specs.Laws.Tests.{cond-yes, cond-no, eqb-of, neqb-of}
+use Rattle.refusal.specs.declared.Refusal.{Refusal}
 use Rattle.told.specs.Told.{unless}
 
-module _ {A : Type 0} (no n : ℕ) (refuse : ℕ → A) (answer : A) (e : no ≡ n) where
-  -- A number refuses.
-  pub refused-way : (no ≡ 0 → ⊥) → refuse no ≡ unless n refuse answer
-  refused-way h = ap refuse e ∙ sym (cond-no (eqb n 0) answer (refuse n) (neqb-of n 0 (λ z. h (e ∙ z))))
+module _ {A : Type 0} (no r : Refusal) (refuse : Refusal → A) (answer : A) (e : no ≡ r) where
+  number : no .number ≡ r .number
+  number = ap (λ (x : Refusal). x .number) e
 
-  -- None does.
-  pub answered-way : no ≡ 0 → (a : A) → a ≡ answer → a ≡ unless n refuse answer
-  answered-way h a k = k ∙ sym (cond-yes (eqb n 0) answer (refuse n) (eqb-of n 0 (sym e ∙ h)))
+  -- It is refused.
+  pub refused-way : (no .number ≡ 0 → ⊥) → refuse no ≡ unless r refuse answer
+  refused-way h = ap refuse e ∙ sym (cond-no (eqb (r .number) 0) answer (refuse r) (neqb-of (r .number) 0 (λ z. h (number ∙ z))))
+
+  -- It is not.
+  pub answered-way : no .number ≡ 0 → (a : A) → a ≡ answer → a ≡ unless r refuse answer
+  answered-way h a k = k ∙ sym (cond-yes (eqb (r .number) 0) answer (refuse r) (eqb-of (r .number) 0 (sym number ∙ h)))

@@ -7,6 +7,8 @@ use mathlib.Core.List.{List, _++_}
 use lib.Dec.{T, eqb, ltb}
 use lib.ListN.{length, drop}
 use borrow.Author.Tests.{eqb-true, eqb-false}
+use Rattle.refusal.specs.declared.Refusal.{Refusal}
+use Rattle.refusal.specs.Forms as form
 use Rattle.model.specs.Cells.{touch26}
 use Rattle.model.specs.Update.{State, update}
 use Rattle.model.specs.Consistent.{consistent}
@@ -14,12 +16,14 @@ use Rattle.model.specs.Laws.Touching.{touching-26}
 use Rattle.model.specs.Theorems.StaysConsistent.{consistent-update}
 use Rattle.layout.specs.Widths.{moveWidth}
 use Rattle.layout.specs.State.{stateLen, encode, decode}
-use Rattle.layout.specs.Points.{longEnough, consistentWords}
+use Rattle.layout.specs.Points.{longEnough, firstBroken, consistentWords}
 use Rattle.layout.specs.Theorems.DecodeEncode.{decode-longer}
 use Rattle.layout.specs.Theorems.Canonical.{consistent-image, image-consistent}
 use Rattle.batch.specs.Words.{batchOf, tooShort}
+use Rattle.batch.specs.Places.{batchRefusal}
 use Rattle.updating.specs.Done.{done}
 use Rattle.yard.specs.Update.{updateOf}
+use Rattle.yard.specs.Laws.Numbers.{number-stays}
 
 -- What a call that is done leaves: the update of the model is done too, and the words begin with the image of the state after it, which is consistent.
 pub record Done (w b : List ℕ) (removals moves : ℕ) : Type 0 where
@@ -36,56 +40,63 @@ module _ (w b : List ℕ) (removals moves : ℕ) where
   abbrev after : ℕ × State
   after = update touch26 (decode w) (batchOf b removals moves)
 
-  abbrev answer : Bool → Bool → ℕ × List ℕ
-  answer s c = cond s (1, w) (cond (not c) (2, w) (after .0, cond (eqb (after .0) 0) (encode (after .1) ++ drop stateLen w) w))
+  abbrev answer : Bool → Bool → Refusal × List ℕ
+  answer s c =
+      cond s (form.tooShort, w)
+      (cond (not c) (form.broken (firstBroken w), w)
+      (batchRefusal (batchOf b removals moves) (after .0), cond (eqb (after .0) 0) (encode (after .1) ++ drop stateLen w) w))
+
+  -- The number is that of the model's update.
+  stays : batchRefusal (batchOf b removals moves) (after .0) .number ≡ after .0
+  stays = number-stays (decode w) (batchOf b removals moves)
 
   answer-is : updateOf w b removals moves ≡ answer (tooShort w b removals moves) (consistentWords w)
   unfolding updateOf done
   answer-is = refl
 
   -- A number that is not 0 leaves the words.
-  left : (s c : Bool) → (answer s c .0 ≡ 0 → ⊥) → answer s c .1 ≡ w
+  left : (s c : Bool) → (answer s c .0 .number ≡ 0 → ⊥) → answer s c .1 ≡ w
   left true c f = refl
   left false false f = refl
   left false true f = go (eqb (after .0) 0) refl
     where
       go : (t : Bool) → eqb (after .0) 0 ≡ t → cond t (encode (after .1) ++ drop stateLen w) w ≡ w
-      go true e = absurd (f (eqb-true (after .0) 0 e))
+      go true e = absurd (f (stays ∙ eqb-true (after .0) 0 e))
       go false e = refl
 
   -- A refusal leaves the words as found.
-  pub update-kept : (updateOf w b removals moves .0 ≡ 0 → ⊥) → updateOf w b removals moves .1 ≡ w
+  pub update-kept : (updateOf w b removals moves .0 .number ≡ 0 → ⊥) → updateOf w b removals moves .1 ≡ w
   update-kept f =
-      ap (λ (p : ℕ × List ℕ). p .1) answer-is
-      ∙ left (tooShort w b removals moves) (consistentWords w) (λ e. f (ap (λ (p : ℕ × List ℕ). p .0) answer-is ∙ e))
+      ap (λ (p : Refusal × List ℕ). p .1) answer-is
+      ∙ left (tooShort w b removals moves) (consistentWords w) (λ e. f (ap (λ (p : Refusal × List ℕ). p .0 .number) answer-is ∙ e))
 
   -- The number 0.
-  zero : (s c : Bool) → answer s c .0 ≡ 0 → (s ≡ false) × (c ≡ true) × (after .0 ≡ 0) × (answer s c .1 ≡ encode (after .1) ++ drop stateLen w)
+  zero : (s c : Bool) → answer s c .0 .number ≡ 0 → (s ≡ false) × (c ≡ true) × (after .0 ≡ 0) × (answer s c .1 ≡ encode (after .1) ++ drop stateLen w)
   zero true c e = absurd (omega arith)
   zero false false e = absurd (omega arith)
-  zero false true e = (refl, refl, e, go (eqb (after .0) 0) refl)
+  zero false true e = (refl, refl, sym stays ∙ e, go (eqb (after .0) 0) refl)
     where
       go : (t : Bool) → eqb (after .0) 0 ≡ t → cond t (encode (after .1) ++ drop stateLen w) w ≡ encode (after .1) ++ drop stateLen w
       go true f = refl
-      go false f = absurd (eqb-false (after .0) 0 f e)
+      go false f = absurd (eqb-false (after .0) 0 f (sym stays ∙ e))
 
   -- A call on words that are long enough and consistent, and done.
-  pub call-done : updateOf w b removals moves .0 ≡ 0 → Done w b removals moves
+  pub call-done : updateOf w b removals moves .0 .number ≡ 0 → Done w b removals moves
   unfolding tooShort
   call-done e =
-      let z = zero (tooShort w b removals moves) (consistentWords w) (sym (ap (λ (p : ℕ × List ℕ). p .0) answer-is) ∙ e) in
+      let z = zero (tooShort w b removals moves) (consistentWords w) (sym (ap (λ (p : Refusal × List ℕ). p .0 .number) answer-is) ∙ e) in
       let l : longEnough w ≡ true = long-of (longEnough w) (ltb (length b) (removals + moveWidth * moves)) (z .0) in
       let c = consistent-image w (z .1) l in
       let s : T (consistent touch26 (after .1)) = consistent-update touch26 touching-26 (decode w) (batchOf b removals moves) (c .0) (z .2) in
-      let v : updateOf w b removals moves .1 ≡ encode (after .1) ++ drop stateLen w = ap (λ (p : ℕ × List ℕ). p .1) answer-is ∙ z .3 in
+      let v : updateOf w b removals moves .1 ≡ encode (after .1) ++ drop stateLen w = ap (λ (p : Refusal × List ℕ). p .1) answer-is ∙ z .3 in
       record { number = z .2; words = v; sound = s; stands = ap decode v ∙ decode-longer (after .1) s (drop stateLen w) }
 
   -- Every call on consistent words leaves consistent words.
   pub update-consistent : consistentWords w ≡ true → consistentWords (updateOf w b removals moves .1) ≡ true
-  update-consistent c = go (eqb (updateOf w b removals moves .0) 0) refl
+  update-consistent c = go (eqb (updateOf w b removals moves .0 .number) 0) refl
     where
-      go : (t : Bool) → eqb (updateOf w b removals moves .0) 0 ≡ t → consistentWords (updateOf w b removals moves .1) ≡ true
+      go : (t : Bool) → eqb (updateOf w b removals moves .0 .number) 0 ≡ t → consistentWords (updateOf w b removals moves .1) ≡ true
       go true e =
-          let d = call-done (eqb-true (updateOf w b removals moves .0) 0 e) in
+          let d = call-done (eqb-true (updateOf w b removals moves .0 .number) 0 e) in
           ap consistentWords (d .words) ∙ image-consistent (after .1) (drop stateLen w) (d .sound)
-      go false e = ap consistentWords (update-kept (eqb-false (updateOf w b removals moves .0) 0 e)) ∙ c
+      go false e = ap consistentWords (update-kept (eqb-false (updateOf w b removals moves .0 .number) 0 e)) ∙ c

@@ -9,7 +9,7 @@ use Rattle.layout.specs.State.{decode}
 use Rattle.yard.specs.Update.{updateOf}
 use Rattle.yard.specs.Theorems.Calls.{call-done}
 
-pub update-grouped : (w b : List ℕ) (removals moves : ℕ) → updateOf w b removals moves .0 ≡ 0 → Grouped touch26 (decode (updateOf w b removals moves .1))
+pub update-grouped : (w b : List ℕ) (removals moves : ℕ) → updateOf w b removals moves .0 .number ≡ 0 → Grouped touch26 (decode (updateOf w b removals moves .1))
 update-grouped w b removals moves e =
     let d = call-done w b removals moves e in
     subst (Grouped touch26) (sym (d .stands)) (grouping-consistent touch26 touching-26 _ (d .sound))

@@ -6,7 +6,7 @@ use borrow.Author.Needs.{needs}
 use Rattle.metres.specs.declared.Answer.the-variants.{Event, NoEvent, Refused}
 use Rattle.moves.specs.Words.{moveWords}
 use Rattle.telling.specs.Reports.{eventTold}
-use Rattle.telling.specs.Laws.Tells.{over-front, telling-by}
+use Rattle.telling.specs.Laws.Tells.{over-front, telling-by, telling-so}
 use Rattle.telling.specs.Laws.Reports.{words-between}
 use Rattle.telling.proofs.reports.tell_event.Statement.{statement}
 use Rattle.telling.proofs.reports.tell_event.Tie as tie
@@ -53,11 +53,8 @@ write-row-requires-2 c κs = search needs
 enum-known-a-2 : tie.Need-enum-known-a-2
 enum-known-a-2 c = search needs
 
-slice-aggregate-write-row-3 : tie.Need-slice-aggregate-write-row-3
-slice-aggregate-write-row-3 c = search needs
-
-write-row-requires-3 : tie.Need-write-row-requires-3
-write-row-requires-3 c κs = search needs
+tell-refusal-requires : tie.Need-tell-refusal-requires
+tell-refusal-requires c κs = search needs
 
 same-length : tie.Need-same-length
 same-length c = search needs
@@ -91,11 +88,11 @@ same-length-3 c = search needs
 
 returns-3 : tie.Need-returns-3
 returns-3 c =
-    let w = c .before .before in
-    let v = w .before .before .before .before in
+    let t = c .before .before in
+    let v = t .before .before .before in
     let s = v .before .before .before in
-    telling-by eventTold (s .args .a) (Refused (v .a2 .given .0 .0)) (v .a2 .given .1) (s .args .told .now) (w .write-row3 .last .0)
-    _ (w .write-row3 .ensures ∙ over-front (s .args .told .now) _) refl
+    telling-so eventTold (s .args .a) (Refused (v .a2 .given .0 .0)) (v .a2 .given .1) (s .args .told .now)
+    (t .tell-refusal .result, t .tell-refusal .last .0) (t .tell-refusal .ensures)
 
 pub tell-event-spec : {M : Type 1} → statement M
 tell-event-spec =
@@ -115,8 +112,7 @@ tell-event-spec =
     slice-aggregate-write-row-2
     write-row-requires-2
     enum-known-a-2
-    slice-aggregate-write-row-3
-    write-row-requires-3
+    tell-refusal-requires
     same-length
     returns
     same-length-2

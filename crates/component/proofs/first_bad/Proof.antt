@@ -1,9 +1,9 @@
--- `metres::first_bad` meets its contract.
+-- `component::first_bad` meets its contract.
 use borrow.Author.Tests.{not-true, not-false}
 use mathlib.Core.Path.{sym}
 use mathlib.Core.Bool.{cond}
-use Rattle.metres.proofs.first_bad.Statement.{statement}
-use Rattle.metres.proofs.first_bad.Tie as tie
+use Rattle.component.proofs.first_bad.Statement.{statement}
+use Rattle.component.proofs.first_bad.Tie as tie
 
 returns : tie.Need-returns
 returns c = let s = c .before in λ i. cond (sym (not-true (s .args .x) (c .if1 .taken)) i) (cond (s .args .y) 2 1) 0
