@@ -34,20 +34,20 @@ extern "C" {
 #endif
 
 /* How many words a state has. */
-#define CAPMARROW_STATE_LEN 48144
+#define CAPMARROW_STATE_LEN 49168
 /* The longest answer of a list: 1,024 cells of four words, or 4,096 entities. */
 #define CAPMARROW_ANSWER_LEN 4096
 /* The longest batch: 1,024 moves of five words. */
 #define CAPMARROW_BATCH_LEN 5120
 
 /* How many words `told` has at least, and what stands there after 0. */
-#define CAPMARROW_TOLD_DONE 3  /* 0, 0, 0: fresh, update, consistent */
-#define CAPMARROW_TOLD_WHERE 5 /* found, grid, x, y, z */
-#define CAPMARROW_TOLD_ID 3    /* found, id */
-#define CAPMARROW_TOLD_COUNT 3 /* found, how many */
-#define CAPMARROW_TOLD_GROUP 9 /* found, grid, cell count, low x, y, z, high x, y, z */
-#define CAPMARROW_TOLD_LIST 3  /* found, how many */
-#define CAPMARROW_TOLD_FLOOD 3 /* found, how many cells, 1 if that was all */
+#define CAPMARROW_TOLD_DONE 3   /* 0, 0, 0: fresh, update, consistent */
+#define CAPMARROW_TOLD_WHERE 5  /* found, grid, x, y, z */
+#define CAPMARROW_TOLD_ID 3     /* found, id */
+#define CAPMARROW_TOLD_COUNT 3  /* found, how many */
+#define CAPMARROW_TOLD_GROUP 10 /* found, grid, cell count, entity count, low x, y, z, high x, y, z */
+#define CAPMARROW_TOLD_LIST 3   /* found, how many */
+#define CAPMARROW_TOLD_FLOOD 3  /* found, how many cells, 1 if that was all */
 
 /* Makes a fresh state whose first id is given; refuses by 1 and 5. */
 uint64_t capmarrow_fresh(uint64_t *state, size_t state_len, uint64_t first_id, uint64_t *told, size_t told_len);

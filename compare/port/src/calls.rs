@@ -38,7 +38,7 @@ pub fn neighbour_count(state: &[u64], c: Cell, told: &mut [u64]) -> u64 {
     unsafe { ffi::capmarrow_neighbour_count(state.as_ptr(), state.len(), c.grid, c.x, c.y, c.z, told.as_mut_ptr(), told.len()) }
 }
 
-/// Told: found, grid, count, low x, y, z, high x, y, z.
+/// Told: found, grid, cell count, entity count, low x, y, z, high x, y, z.
 pub fn group(state: &[u64], id: u64, told: &mut [u64]) -> u64 {
     unsafe { ffi::capmarrow_group(state.as_ptr(), state.len(), id, told.as_mut_ptr(), told.len()) }
 }

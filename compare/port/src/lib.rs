@@ -18,7 +18,7 @@ pub use types::{Batch, Cell, Cube, Flood, Group, Lookup};
 pub use yard::Yard;
 
 /// How many words a state has.
-pub const STATE_LEN: usize = 48_144;
+pub const STATE_LEN: usize = 49_168;
 /// How many occupied cells a yard has at most.
 pub const MOST_CELLS: usize = 1_024;
 /// How many entities a yard has at most.

@@ -78,11 +78,12 @@ impl<T> Lookup<T> {
     }
 }
 
-/// A group: its grid, its cell count, and its low and its high corner, x, y, z of each.
+/// A group: its grid, its cell count, how many entities stand in its cells, and its low and its high corner, x, y, z of each.
 #[derive(Debug, Clone, Copy, PartialEq, Eq)]
 pub struct Group {
     pub grid: u64,
     pub count: u64,
+    pub entities: u64,
     pub corners: [[i32; 3]; 2],
 }
 

@@ -60,9 +60,9 @@ impl Yard {
 
     /// A group by id.
     pub fn group(&self, id: u64) -> Answer<Lookup<Group>> {
-        let told = told(Given::Nothing, |told: &mut [u64; 9]| calls::group(&self.words, id, told))?;
+        let told = told(Given::Nothing, |told: &mut [u64; 10]| calls::group(&self.words, id, told))?;
         let corner = |at: usize| [told[at] as i32, told[at + 1] as i32, told[at + 2] as i32];
-        Ok(lookup(told[0], || Group { grid: told[1], count: told[2], corners: [corner(3), corner(6)] }))
+        Ok(lookup(told[0], || Group { grid: told[1], count: told[2], entities: told[3], corners: [corner(4), corner(7)] }))
     }
 
     /// The ids, ascending.

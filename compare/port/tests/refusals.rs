@@ -69,6 +69,7 @@ fn the_first_broken_point_is_said() {
         assert_eq!(said(broken.update(&Batch::default())), sentence);
     }
     assert_eq!(said(changed(&[(NEXT_ID, 1), (GROUPS + 2, 3)]).group(0)), Refusal::Broken(5).to_string());
+    assert_eq!(said(changed(&[(GROUPS + 3, 1)]).consistent()), Refusal::Broken(5).to_string());
     assert_eq!(yard().consistent(), Ok(()));
 }
 

@@ -90,7 +90,8 @@ impl Sides {
         same("newly emptied cells", self.state().newly_emptied(), self.rust.newly_emptied())
     }
 
-    /// The grouping, also against the connected parts; the groups' grids, counts and corners; ids while they can be compared.
+    /// The grouping, also against the connected parts; the groups' grids, counts of cells and of entities, and corners; ids while they can be
+    /// compared.
     fn groups(&self, counts: &mut Counts) -> Verdict {
         let (ours, theirs) = (self.state().ids(), self.rust.ids());
         same("cells with an id", ours.keys().collect::<Vec<_>>(), theirs.keys().collect())?;
@@ -102,7 +103,7 @@ impl Sides {
         counts.groups += groups.len() as u64;
         counts.older_corners += older;
         let renamed = self.renamed(&ours, &theirs, groups);
-        same("the groups' grids, counts or corners", self.state().groups(), renamed)?;
+        same("the groups' grids, counts of cells or entities, or corners", self.state().groups(), renamed)?;
         if self.ids_comparable {
             let shifted: BTreeMap<Cell, u64> = theirs.iter().map(|(c, id)| (*c, id + self.first_id)).collect();
             same("ids", ours, shifted)?;

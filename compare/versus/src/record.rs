@@ -174,10 +174,10 @@ fn grouped(yard: &RustYard, all: impl Iterator<Item = Cell>, first_id: Option<u6
     }
 }
 
-/// Grid, count and corners of a group.
+/// Grid, counts of cells and entities, and corners of a group.
 fn record_of(group: &Group) -> String {
     let [low, high] = group.corners.map(|[x, y, z]| format!("{x} {y} {z}"));
-    format!("{} {} from {low} to {high}", group.grid, group.count)
+    format!("{} {} {} from {low} to {high}", group.grid, group.count, group.entities)
 }
 
 /// A flood, a cube, a cell and an entity.

@@ -161,12 +161,12 @@ impl RustYard {
         self.partitions.next_partition
     }
 
-    /// Each group by id, its corners taken over its cells; and how many groups keep other corners themselves.
+    /// Each group by id, its entities and its corners taken over its cells; and how many groups keep other corners themselves.
     pub fn groups(&self) -> (BTreeMap<u64, Group>, u64) {
         let mut older = 0;
         let mut groups = BTreeMap::new();
         for (p, part) in self.partitions.iter() {
-            let group = shown(part);
+            let group = self.shown(part);
             let (low, high) = (part.min(), part.max());
             older += u64::from([[low.x, low.y, low.z], [high.x, high.y, high.z]] != group.corners);
             groups.insert(p.id(), group);
@@ -210,12 +210,18 @@ impl RustYard {
     pub fn flood(&self, seed: Cell, depth: Option<i32>) -> Vec<Cell> {
         self.lookup.flood(&id(seed), depth).map(|n| cell(&n.0)).collect()
     }
-}
 
-/// Grid, cell count and corners over a partition's cells.
-fn shown(part: &Partition) -> Group {
-    let cells: Vec<CellCoord> = part.iter().map(CellId::coord).collect();
-    let low = cells.iter().copied().reduce(|a, b| a.min(b)).expect("a partition has a cell");
-    let high = cells.iter().copied().reduce(|a, b| a.max(b)).expect("a partition has a cell");
-    Group { grid: part.grid().0, count: part.num_cells() as u64, corners: [[low.x, low.y, low.z], [high.x, high.y, high.z]] }
+    /// Grid and cell count of a partition, and over its cells the sum of their entities and the corners.
+    fn shown(&self, part: &Partition) -> Group {
+        let standing = |c: &CellId| self.lookup.get(c).map_or(0, |entry| entry.entities.len() as u64);
+        let cells: Vec<CellCoord> = part.iter().map(CellId::coord).collect();
+        let low = cells.iter().copied().reduce(|a, b| a.min(b)).expect("a partition has a cell");
+        let high = cells.iter().copied().reduce(|a, b| a.max(b)).expect("a partition has a cell");
+        Group {
+            grid: part.grid().0,
+            count: part.num_cells() as u64,
+            entities: part.iter().map(standing).sum(),
+            corners: [[low.x, low.y, low.z], [high.x, high.y, high.z]],
+        }
+    }
 }

@@ -63,7 +63,7 @@ impl<'a> StateWords<'a> {
     }
 
     pub fn groups(&self) -> BTreeMap<u64, Group> {
-        let group = |row: &[u64]| Group { grid: row[1], count: row[2], corners: [corner(&row[3..]), corner(&row[6..])] };
-        self.rows(GROUPS, 9, 5).map(|row| (row[0], group(row))).collect()
+        let group = |row: &[u64]| Group { grid: row[1], count: row[2], entities: row[3], corners: [corner(&row[4..]), corner(&row[7..])] };
+        self.rows(GROUPS, 10, 5).map(|row| (row[0], group(row))).collect()
     }
 }

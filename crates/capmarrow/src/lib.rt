@@ -105,12 +105,12 @@ pub extern "C" fn capmarrow_neighbour_count(
     )
 }
 
-// A group by id. Told: found, grid, count, low x, y, z, high x, y, z.
+// A group by id. Told: found, grid, cell count, entity count, low x, y, z, high x, y, z.
 #[no_mangle]
 pub extern "C" fn capmarrow_group(state: &[u64], id: u64, told: &mut [u64]) -> u64
-    ensures { λ r. ⌜ _≡_ {A = ℕ × List ℕ} (r, now (told .exit)) (tells 9 (numbered groupWords (groupOf (now (state .entry)) id)) (now (told .entry))) ⌝ }
+    ensures { λ r. ⌜ _≡_ {A = ℕ × List ℕ} (r, now (told .exit)) (tells 10 (numbered groupWords (groupOf (now (state .entry)) id)) (now (told .entry))) ⌝ }
 {
-    if told.len() < 9 {
+    if told.len() < 10 {
         return 1;
     }
     telling::tell_group(told, ask::group(state, id))

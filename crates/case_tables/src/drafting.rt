@@ -16,6 +16,7 @@ use layout::CELL_ID;
 use layout::CELL_MASK;
 use layout::ENTITY_CELL;
 use layout::GROUP_CELLS;
+use layout::GROUP_ENTITIES;
 use layout::GROUP_GRID;
 use layout::GROUP_HIGH;
 use layout::GROUP_LOW;
@@ -88,14 +89,15 @@ fn net(draft: &mut [u64; YARD_LEN], row: &[u64; ROW_LEN], name: u64) {
     put_cell(draft, at, 0, cell_at(row, 0));
 }
 
-// A group: id, grid, cell count, low corner, high corner.
+// A group: id, grid, cell count, entity count, low corner, high corner.
 fn record(draft: &mut [u64; YARD_LEN], row: &[u64; ROW_LEN]) {
     let at = new_row(draft, keys::GROUPS);
     put_in(draft, at, 0, row[0]);
     put_in(draft, at, GROUP_GRID, row[1]);
     put_in(draft, at, GROUP_CELLS, row[2]);
-    put_corner(draft, at, GROUP_LOW, row, 3);
-    put_corner(draft, at, GROUP_HIGH, row, 6);
+    put_in(draft, at, GROUP_ENTITIES, row[3]);
+    put_corner(draft, at, GROUP_LOW, row, 4);
+    put_corner(draft, at, GROUP_HIGH, row, 7);
 }
 
 // No rows, and the next id; behind the state stand words of no meaning.

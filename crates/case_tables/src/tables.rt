@@ -21,6 +21,7 @@ use layout::ENTITY_COUNT;
 use layout::ENTITY_WIDTH;
 use layout::GROUP_CELLS;
 use layout::GROUP_COUNT;
+use layout::GROUP_ENTITIES;
 use layout::GROUP_GRID;
 use layout::GROUP_HIGH;
 use layout::GROUP_LOW;
@@ -105,6 +106,7 @@ fn in_group(name: u64) -> usize {
     match name {
         keys::GRID => GROUP_GRID,
         keys::COUNT => GROUP_CELLS,
+        keys::ENTITIES => GROUP_ENTITIES,
         keys::LOWX => GROUP_LOW,
         keys::LOWY => GROUP_LOW + 1,
         keys::LOWZ => GROUP_LOW + 2,

@@ -69,14 +69,16 @@ fn ids_shared(state: &[u64]) -> bool
 
 // 5. Whether there is one group record for each id that a cell has and no other, its grid, corners and counts exact.
 fn records_exact(state: &[u64]) -> bool
-    requires { ⌜ (longEnough (now state) ≡ true) × (point2 (now state) ≡ true) ⌝ }
+    requires { ⌜ (longEnough (now state) ≡ true) × (point1 (now state) ≡ true) × (point2 (now state) ≡ true) ⌝ }
     ensures { λ r. ⌜ r ≡ point5 (now (state .entry)) ⌝ }
 {
+    let ents = entity_words(state);
+    let n = count_at(state, ENTITY_COUNT);
     let ids = id_words(state);
     let k = count_at(state, ID_COUNT);
     let groups = group_words(state);
     let g = count_at(state, GROUP_COUNT);
-    points_check::records_right(ids, k, groups, g)
+    points_check::records_right(ents, n, ids, k, groups, g)
 }
 
 // 6. Whether every id is below the next id.

@@ -43,11 +43,11 @@ idRow p = (p .0, p .1 ∷ [])
 abbrev pub idOf : Cell × List ℕ → Cell × ℕ
 idOf p = (p .0, getD (p .1) 0 0)
 
--- A group's row: the id, then grid, cell count, low x, y, z, high x, y, z; 9 words.
+-- A group's row: the id, then grid, cell count, entity count, low x, y, z, high x, y, z; 10 words.
 abbrev pub groupRow : ℕ × Group → ℕ × List ℕ
 groupRow p = (
   p .0,
-  p .1 .grid ∷ p .1 .count ∷ p .1 .low .x ∷ p .1 .low .y ∷ p .1 .low .z ∷ p .1 .high .x ∷ p .1 .high .y ∷ p .1 .high .z ∷ [],
+  p .1 .grid ∷ p .1 .count ∷ p .1 .entities ∷ p .1 .low .x ∷ p .1 .low .y ∷ p .1 .low .z ∷ p .1 .high .x ∷ p .1 .high .y ∷ p .1 .high .z ∷ [],
 )
 
 -- The corner whose words stand at a place.
@@ -55,7 +55,7 @@ abbrev pub cornerIn : List ℕ → ℕ → Corner
 cornerIn s at = record { x = getD s at 0; y = getD s (at + 1) 0; z = getD s (at + 2) 0 }
 
 abbrev pub groupOf : ℕ × List ℕ → ℕ × Group
-groupOf p = (p .0, record { grid = getD (p .1) 0 0; count = getD (p .1) 1 0; low = cornerIn (p .1) 2; high = cornerIn (p .1) 5 })
+groupOf p = (p .0, record { grid = getD (p .1) 0 0; count = getD (p .1) 1 0; entities = getD (p .1) 2 0; low = cornerIn (p .1) 3; high = cornerIn (p .1) 6 })
 
 -- The words of each table in len words: its rows, then zeros.
 unfoldable pub entitiesImage : ℕ → List (ℕ × Cell) → List ℕ

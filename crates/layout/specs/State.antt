@@ -23,9 +23,9 @@ netLen = 4096
 unfoldable pub idsLen : ℕ
 idsLen = 5120
 
--- 1,024 groups of 9 words.
+-- 1,024 groups of 10 words.
 unfoldable pub groupsLen : ℕ
-groupsLen = 9216
+groupsLen = 10240
 
 -- Where each table begins, and where the state ends.
 unfoldable pub entitiesFrom : ℕ
@@ -47,7 +47,7 @@ unfoldable pub groupsFrom : ℕ
 groupsFrom = 38928
 
 unfoldable pub stateLen : ℕ
-stateLen = 48144
+stateLen = 49168
 
 -- The header of a state: how many rows each table has, the next id, zeros.
 abbrev pub header : State → List ℕ

@@ -36,9 +36,9 @@ idWidth = 5
 abbrev pub cellId : ℕ
 cellId = 4
 
--- A group's row: the id, the grid, the cell count, the low corner and the high corner, x, y, z each.
+-- A group's row: the id, the grid, the cell count, the entity count, the low corner and the high corner, x, y, z each.
 abbrev pub groupWidth : ℕ
-groupWidth = 9
+groupWidth = 10
 
 abbrev pub groupGrid : ℕ
 groupGrid = 1
@@ -46,11 +46,14 @@ groupGrid = 1
 abbrev pub groupCells : ℕ
 groupCells = 2
 
+abbrev pub groupEntities : ℕ
+groupEntities = 3
+
 abbrev pub groupLow : ℕ
-groupLow = 3
+groupLow = 4
 
 abbrev pub groupHigh : ℕ
-groupHigh = 6
+groupHigh = 7
 
 -- A row of the crowd, which an update keeps beside the state: the cell, then how many stand in it.
 abbrev pub crowdWidth : ℕ

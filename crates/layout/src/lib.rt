@@ -57,16 +57,18 @@ pub const ID_WIDTH: usize = 5;
 
 pub const CELL_ID: usize = 4;
 
-// A group's row: the id, the grid, the cell count, the low corner and the high corner, x, y, z each.
-pub const GROUP_WIDTH: usize = 9;
+// A group's row: the id, the grid, the cell count, the entity count, the low corner and the high corner, x, y, z each.
+pub const GROUP_WIDTH: usize = 10;
 
 pub const GROUP_GRID: usize = 1;
 
 pub const GROUP_CELLS: usize = 2;
 
-pub const GROUP_LOW: usize = 3;
+pub const GROUP_ENTITIES: usize = 3;
 
-pub const GROUP_HIGH: usize = 6;
+pub const GROUP_LOW: usize = 4;
+
+pub const GROUP_HIGH: usize = 7;
 
 // A row of the crowd, which an update keeps beside the state: the cell, then how many stand in it.
 pub const CROWD_WIDTH: usize = 5;

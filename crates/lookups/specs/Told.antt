@@ -48,9 +48,9 @@ underCell Under.NotFound = none
 abbrev pub cornerOf : Corner → CellCoord
 cornerOf p = record { x = unbiased (p .x); y = unbiased (p .y); z = unbiased (p .z) }
 
--- What is shown of a group: its grid, its cell count, and both corners by their signed coordinates.
+-- What is shown of a group: its grid, its cell count, its entity count, and both corners by their signed coordinates.
 abbrev pub shownOf : Group → Shown
-shownOf g = record { grid = g .grid; count = g .count; low = cornerOf (g .low); high = cornerOf (g .high) }
+shownOf g = record { grid = g .grid; count = g .count; entities = g .entities; low = cornerOf (g .low); high = cornerOf (g .high) }
 
 -- The coordinates of a corner: x, y, z.
 abbrev pub axes : CellCoord → List ℤ

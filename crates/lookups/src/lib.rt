@@ -6,6 +6,7 @@ use layout::CELL_ID;
 use layout::ENTITY_CELL;
 use layout::ENTITY_WIDTH;
 use layout::GROUP_CELLS;
+use layout::GROUP_ENTITIES;
 use layout::GROUP_GRID;
 use layout::GROUP_HIGH;
 use layout::GROUP_LOW;
@@ -50,10 +51,11 @@ pub enum CountOf {
     Refused(Refusal),
 }
 
-// What is shown of a group: its grid, its cell count, the low and the high corner.
+// What is shown of a group: its grid, its cell count, its entity count, the low and the high corner.
 pub struct Shown {
     pub grid: u64,
     pub count: u64,
+    pub entities: u64,
     pub low: CellCoord,
     pub high: CellCoord,
 }
@@ -146,6 +148,7 @@ fn shown_at(rows: &[u64], at: usize) -> Shown
     Shown {
         grid: rows[at + GROUP_GRID],
         count: rows[at + GROUP_CELLS],
+        entities: rows[at + GROUP_ENTITIES],
         low,
         high,
     }

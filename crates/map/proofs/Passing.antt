@@ -10,6 +10,7 @@ use lib.ListN.{length}
 use Rattle.model.specs.Lists.{each, keys, get, put, dropKey}
 use Rattle.model.specs.Cells.{Cell, same, below, touch26}
 use Rattle.model.specs.Occupancy.{Occupancy, occupied, standsIn, withEntities, openCell, closeCell, enter, leave}
+use Rattle.model.specs.Crowd.{howMany}
 use Rattle.model.specs.Laws.Tests.{T-false, true-of, false-of, nltb-of}
 use Rattle.model.specs.Laws.Members.{each-length}
 use Rattle.model.specs.Laws.Sorted.{Asc}
@@ -23,7 +24,7 @@ use Rattle.table.specs.Laws.Kinds.{cell-lawful}
 use Rattle.table.specs.Laws.Next.{room-there, put-next, drop-next}
 use Rattle.map.specs.declared.Counts.{Counts}
 use Rattle.map.specs.Told.{TableIs}
-use Rattle.map.specs.Held.{howMany, crowdOf, counted, Placed, Stored, Peopled, Opens, Closes, EntersCell, LeavesCell}
+use Rattle.map.specs.Held.{crowdOf, counted, Placed, Stored, Peopled, Opens, Closes, EntersCell, LeavesCell}
 use Rattle.map.specs.Laws.Each.{keys-each, put-each, drop-each, image-shows, shows-image, shows-count, shows-fit}
 use Rattle.map.specs.Laws.Crowd.{stands-counted, standing-few, crowd-keys, crowd-counted, crowd-enter, crowd-leave, crowd-close, last-leaves, other-stays}
 use Rattle.map.specs.Laws.Placed.{enter-placed, leave-placed}

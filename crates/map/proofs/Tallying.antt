@@ -7,6 +7,7 @@ use mathlib.Core.List.{List, [], _∷_, _++_}
 use lib.ListN.{length, getD, replicate}
 use Rattle.model.specs.Lists.{each, get, put}
 use Rattle.model.specs.Cells.{Cell, same, below}
+use Rattle.model.specs.Crowd.{howMany}
 use Rattle.model.specs.Laws.Members.{each-length}
 use Rattle.layout.specs.Widths.{crowdWidth, entityCell, entityWidth}
 use Rattle.layout.specs.Rows.{idRow, entitiesIn, idsImage}
@@ -14,7 +15,7 @@ use Rattle.table.specs.Rows.{cell, cellAt, rowsOf, table4, stored4, hasRoom4}
 use Rattle.table.specs.Laws.Kinds.{cell-lawful}
 use Rattle.table.specs.Laws.Next.{put-next}
 use Rattle.map.specs.Told.{TableIs}
-use Rattle.map.specs.Held.{howMany, tally, counted}
+use Rattle.map.specs.Held.{tally, counted}
 use Rattle.map.specs.Laws.Each.{put-each, shows-image, shows-count}
 use Rattle.map.specs.Laws.Crowd.{standing-few}
 use Rattle.map.specs.Laws.Tally.{tally-more, tally-shorter, tally-counted, tally-room, tally-none, entities-none, entities-more, entities-lead, entities-length}

@@ -6,8 +6,9 @@ use mathlib.Core.List.{List, List·Memᴰ as Mem}
 use mathlib.Core.Option.{Option, none, some}
 use lib.Dec.{eqb}
 use lib.ListN.{length, getD}
-use Rattle.model.specs.Lists.{keep, ascending, each, values}
+use Rattle.model.specs.Lists.{ascending, values}
 use Rattle.model.specs.Cells.{Cell, same, below, cellInRange, touch26}
+use Rattle.model.specs.Crowd.{howMany, tallied}
 use Rattle.model.specs.Occupancy.{Occupancy, occupied, remove, moveTo, play}
 use Rattle.model.specs.Laws.Sorted.{Asc}
 use Rattle.model.specs.Laws.Tables.{At, Free}
@@ -16,14 +17,6 @@ use Rattle.model.specs.Laws.Net.{Inside}
 use Rattle.layout.specs.Widths.{cellWidth, crowdWidth, entityWidth, netWidth}
 use Rattle.layout.specs.Rows.{entitiesImage, cellsImage, netImage, idsImage}
 use Rattle.map.specs.declared.Counts.{Counts}
-
--- How many entities stand in the cell.
-unfoldable pub howMany : List (ℕ × Cell) → Cell → ℕ
-howMany t c = length (keep (λ (p : ℕ × Cell). same c (p .1)) t)
-
--- Some cells, each with what a rule gives for it.
-abbrev pub tallied : (Cell → ℕ) → List Cell → List (Cell × ℕ)
-tallied f = each (λ c. (c, f c))
 
 -- Each cell where entities stand, with their number.
 unfoldable pub tally : List (ℕ × Cell) → List (Cell × ℕ)

@@ -15,6 +15,7 @@ use Rattle.model.specs.Consistent.{sameCorner}
 pub mod Paper
 pub mod Slips
 pub mod KeptOut
+pub mod Rows
 pub mod Rings
 
 -- One thing to be seen after the batches of a case.

@@ -55,11 +55,12 @@ sameRecord p q =
     eqb (p .0) (q .0)
     && (eqb (p .1 .grid) (q .1 .grid)
     && (eqb (p .1 .count) (q .1 .count)
-    && (sameCorner (p .1 .low) (q .1 .low) && sameCorner (p .1 .high) (q .1 .high))))
+    && (eqb (p .1 .entities) (q .1 .entities)
+    && (sameCorner (p .1 .low) (q .1 .low) && sameCorner (p .1 .high) (q .1 .high)))))
 
 -- 5. One group record for each id that a cell has and no other, its grid, corners and counts exact.
 abbrev pub recordsExact : State → Bool
-recordsExact s = equal sameRecord (s .records) (records (s .groups .ids))
+recordsExact s = equal sameRecord (s .records) (records (s .occupancy .entities) (s .groups .ids))
 
 -- 6. Every id below the next id.
 abbrev pub idsBelowNext : State → Bool

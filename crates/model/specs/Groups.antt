@@ -122,10 +122,11 @@ pub record Corner : Type 0 where
   pub y : ℕ
   pub z : ℕ
 
--- What is shown of a group: its grid, its cell count, the low and the high corner.
+-- What is shown of a group: its grid, its cell count, its entity count, the low and the high corner.
 pub record Group : Type 0 where
   pub grid : ℕ
   pub count : ℕ
+  pub entities : ℕ
   pub low : Corner
   pub high : Corner
 
@@ -141,21 +142,26 @@ lower p c = record { x = min (p .x) (c .x); y = min (p .y) (c .y); z = min (p .z
 abbrev pub higher : Corner → Cell → Corner
 higher p c = record { x = max (p .x) (c .x); y = max (p .y) (c .y); z = max (p .z) (c .z) }
 
--- The group of a first cell and others: its grid, its cell count, its exact corners.
-abbrev pub groupOf : Cell → List Cell → Group
-groupOf c cs =
+-- How many entities stand in the cells.
+abbrev pub standingAt : List (ℕ × Cell) → List Cell → ℕ
+standingAt entities cells = length (keep (λ (p : ℕ × Cell). has same cells (p .1)) entities)
+
+-- The group of a first cell and others: its grid, its cell count, its entity count, its exact corners.
+abbrev pub groupOf : List (ℕ × Cell) → Cell → List Cell → Group
+groupOf entities c cs =
     record {
       grid = c .grid;
       count = suc (length cs);
+      entities = standingAt entities (c ∷ cs);
       low = run lower (cornerAt c) cs;
       high = run higher (cornerAt c) cs;
     }
 
 -- The record of a group with these cells; a group with no cell has none.
-abbrev pub recordOf : ℕ → List Cell → List (ℕ × Group)
-recordOf g [] = []
-recordOf g (c ∷ cs) = (g, groupOf c cs) ∷ []
+abbrev pub recordOf : List (ℕ × Cell) → ℕ → List Cell → List (ℕ × Group)
+recordOf entities g [] = []
+recordOf entities g (c ∷ cs) = (g, groupOf entities c cs) ∷ []
 
 -- One group record for each id that a cell has, ascending by id.
-abbrev pub records : Ids → List (ℕ × Group)
-records ids = gather (λ g. recordOf g (members ids g)) (ascending ltb (values ids))
+abbrev pub records : List (ℕ × Cell) → Ids → List (ℕ × Group)
+records entities ids = gather (λ g. recordOf entities g (members ids g)) (ascending ltb (values ids))

@@ -15,6 +15,7 @@ pub mod Walks
 pub mod Slots
 pub mod Occupied
 pub mod Net
+pub mod Ends
 pub mod Visits
 pub mod Floods
 pub mod Keys
@@ -42,3 +43,5 @@ pub mod Reaching
 pub mod FloodOn
 pub mod Leading
 pub mod Steps
+pub mod Totals
+pub mod EntityRows

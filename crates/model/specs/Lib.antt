@@ -12,5 +12,7 @@ pub mod Cases
 pub mod Paths
 pub mod Shortest
 pub mod Runs
+pub mod Counted
+pub mod Crowd
 pub mod Laws
 pub mod Theorems

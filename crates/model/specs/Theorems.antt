@@ -13,3 +13,4 @@ pub mod Isolation
 pub mod Histories
 pub mod PathExact
 pub mod AskedAlone
+pub mod EntityCounts

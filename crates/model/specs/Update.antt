@@ -76,7 +76,7 @@ module _ (touch : Cell → Cell → Bool) where
   accepted s b =
       let o : Occupancy = playBatch touch b (s .occupancy) in
       let g : Groups = regroup touch (o .newlyOccupied) (o .newlyEmptied) (s .groups) in
-      record { occupancy = o; groups = g; records = records (g .ids) }
+      record { occupancy = o; groups = g; records = records (o .entities) (g .ids) }
 
   -- The number given back and the state left: a refusal leaves the state unchanged.
   unfoldable pub update : State → Batch → ℕ × State

@@ -8,11 +8,12 @@ use lib.Dec.{T, ltb}
 use lib.ListN.{length, getD, take, drop}
 use Rattle.model.specs.Lists.{each, gather, count, keys, get, put, has, only}
 use Rattle.model.specs.Cells.{Cell, same, below, cellInRange}
-use Rattle.model.specs.Groups.{Ids, Groups, Group, lower, higher, groupOf, largestGroup, merge}
+use Rattle.model.specs.Groups.{Ids, Groups, Group, cornerAt, lower, higher, largestGroup, merge}
+use Rattle.model.specs.Crowd.{howMany}
 use Rattle.model.specs.Laws.Sorted.{Asc}
 use Rattle.component.specs.Stored.{storedByAxis}
 use Rattle.table.specs.Rows.{cell, cellAt, rowOf}
-use Rattle.layout.specs.Widths.{idWidth, cellId, netWidth, groupWidth, groupGrid, groupCells, groupLow, groupHigh}
+use Rattle.layout.specs.Widths.{idWidth, cellId, netWidth, groupWidth, groupGrid, groupCells, groupEntities, groupLow, groupHigh}
 use Rattle.layout.specs.Rows.{idRow, idsImage, groupsImage, netImage, neighbourOf}
 
 -- The words hold n cells with ids, ascending.
@@ -50,26 +51,31 @@ pub record HeldGroups (words : List ℕ) (k : ℕ) (l : List (ℕ × Group)) : T
   pub asc : Asc ltb (keys l)
   pub fits : groupWidth * k ≤ length words
 
--- A group with one cell more; the group of that cell alone where there was none.
-abbrev pub grown : Option Group → Cell → Group
-grown none c = groupOf c []
-grown (some r) c = record { grid = r .grid; count = suc (r .count); low = lower (r .low) c; high = higher (r .high) c }
+-- A group with one cell more, in which m entities stand; the group of that cell alone where there was none.
+abbrev pub grown : Option Group → Cell → ℕ → Group
+grown none c m = record { grid = c .grid; count = 1; entities = m; low = cornerAt c; high = cornerAt c }
+grown (some r) c m = record { grid = r .grid; count = suc (r .count); entities = r .entities + m; low = lower (r .low) c; high = higher (r .high) c }
 
--- Each group has fewer than 2^63 cells.
-abbrev pub fewCells : List (ℕ × Group) → Type 0
-fewCells l = (q : ℕ × Group) → Mem q l → q .1 .count < 9223372036854775808
+-- Each group has fewer than 2^63 cells, and than 2^63 entities.
+abbrev pub few : List (ℕ × Group) → Type 0
+few l = (q : ℕ × Group) → Mem q l → (q .1 .count < 9223372036854775808) × (q .1 .entities < 9223372036854775808)
+
+-- Beside n cells with ids some words count how many of the entities stand in each of the cells.
+pub record HeldCounts (counts ids : List ℕ) (n : ℕ) (entities : List (ℕ × Cell)) : Type 0 where
+  pub are : (i : ℕ) → i < n → getD counts i 0 ≡ howMany entities (cellAt ids (idWidth * i))
+  pub fits : n ≤ length counts
 
 -- A corner of the record that stands at a place, as a cell of the group's grid; its coordinates stand from `first` on.
 abbrev pub cornerCell : List ℕ → ℕ → ℕ → Cell
 cornerCell s at first =
     record { grid = getD s (at + groupGrid) 0; z = getD s (at + (first + 2)) 0; y = getD s (at + (first + 1)) 0; x = getD s (at + first) 0 }
 
--- The words of the record that stands at a place, with one cell more.
-abbrev pub grownWords : List ℕ → ℕ → Cell → List ℕ
-grownWords s at c =
+-- The words of the record that stands at a place, with one cell more, in which m entities stand.
+abbrev pub grownWords : List ℕ → ℕ → Cell → ℕ → List ℕ
+grownWords s at c m =
     let low : Cell = storedByAxis min (cornerCell s at groupLow) c in
     let high : Cell = storedByAxis max (cornerCell s at groupHigh) c in
-    getD s at 0 ∷ getD s (at + groupGrid) 0 ∷ (getD s (at + groupCells) 0 + 1)
+    getD s at 0 ∷ getD s (at + groupGrid) 0 ∷ (getD s (at + groupCells) 0 + 1) ∷ (getD s (at + groupEntities) 0 + m)
     ∷ low .x ∷ low .y ∷ low .z ∷ high .x ∷ high .y ∷ high .z ∷ []
 
 -- The first k neighbours of a cell.

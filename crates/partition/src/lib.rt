@@ -2,6 +2,7 @@
 use component::Cell;
 use layout::CELL_ID;
 use layout::GROUP_CELLS;
+use layout::GROUP_ENTITIES;
 use layout::GROUP_GRID;
 use layout::GROUP_HIGH;
 use layout::GROUP_LOW;
@@ -29,8 +30,8 @@ ghost use Rattle.model.specs.Lists.{all, has, get, put, run};
 ghost use Rattle.model.specs.Cells.{Cell, below, cellInRange, touch26};
 ghost use Rattle.model.specs.Groups.{Ids, Groups, Group, size, largestGroup, merge, foundAt, rule1, rule2, records};
 ghost use Rattle.layout.specs.Rows.{idsIn};
-ghost use Rattle.layout.specs.Widths.{idWidth, netWidth, groupWidth, groupCells};
-ghost use Rattle.partition.specs.Held.{HeldTable, HeldRows, HeldIds, HeldCells, HeldGroups, grown, cornerCell, grownWords, fewCells, joined, wordsOf, rowIn, Sifted};
+ghost use Rattle.layout.specs.Widths.{idWidth, netWidth, groupWidth, groupCells, groupEntities};
+ghost use Rattle.partition.specs.Held.{HeldTable, HeldRows, HeldIds, HeldCells, HeldGroups, HeldCounts, grown, cornerCell, grownWords, few, joined, wordsOf, rowIn, Sifted};
 
 // A corner of the group record at at, whose coordinates stand from first on, as a cell of the group's grid.
 fn corner_at(groups: &[u64], at: usize, first: usize) -> Cell
@@ -45,10 +46,10 @@ fn corner_at(groups: &[u64], at: usize, first: usize) -> Cell
     }
 }
 
-// The words of the group record at at, with the cell c more.
-fn grown_row(groups: &[u64], at: usize, c: Cell) -> [u64; GROUP_WIDTH]
-    requires { ⌜ (at + groupWidth ≤ length (now groups)) × (getD (now groups) (at + groupCells) 0 < 9223372036854775808) ⌝ }
-    ensures { λ r. ⌜ r ≡ grownWords (now (groups .entry)) at c ⌝ }
+// The words of the group record at at, with the cell c more, in which m entities stand.
+fn grown_row(groups: &[u64], at: usize, c: Cell, m: u64) -> [u64; GROUP_WIDTH]
+    requires { ⌜ (at + groupWidth ≤ length (now groups)) × (getD (now groups) (at + groupCells) 0 < 9223372036854775808) × (getD (now groups) (at + groupEntities) 0 < 9223372036854775808) × (m < 9223372036854775808) ⌝ }
+    ensures { λ r. ⌜ r ≡ grownWords (now (groups .entry)) at c m ⌝ }
 {
     let low = corner_at(groups, at, GROUP_LOW);
     let high = corner_at(groups, at, GROUP_HIGH);
@@ -58,6 +59,7 @@ fn grown_row(groups: &[u64], at: usize, c: Cell) -> [u64; GROUP_WIDTH]
         groups[at],
         groups[at + GROUP_GRID],
         groups[at + GROUP_CELLS] + 1,
+        groups[at + GROUP_ENTITIES] + m,
         lower.x,
         lower.y,
         lower.z,
@@ -67,28 +69,28 @@ fn grown_row(groups: &[u64], at: usize, c: Cell) -> [u64; GROUP_WIDTH]
     ]
 }
 
-// The cell c is counted in the record of the group g; the answer is the new number of records.
-fn count_cell(groups: &mut [u64], k: usize, c: Cell, g: u64) -> usize
-    requires { ⌜ ((l : List (ℕ × Group)) × HeldGroups (now groups) k l × fewCells l × (groupWidth * k + groupWidth ≤ length (now groups))) ⌝ }
-    ensures { λ r. ⌜ ((l : List (ℕ × Group)) → HeldGroups (now (groups .entry)) k l → HeldGroups (now (groups .exit)) r (put ltb g (grown (get eqb l g) c) l)) ⌝ }
+// The cell c, in which m entities stand, is counted in the record of the group g; the answer is the new number of records.
+fn count_cell(groups: &mut [u64], k: usize, c: Cell, m: u64, g: u64) -> usize
+    requires { ⌜ ((l : List (ℕ × Group)) × HeldGroups (now groups) k l × few l × (groupWidth * k + groupWidth ≤ length (now groups)) × (m < 9223372036854775808)) ⌝ }
+    ensures { λ r. ⌜ ((l : List (ℕ × Group)) → HeldGroups (now (groups .entry)) k l → HeldGroups (now (groups .exit)) r (put ltb g (grown (get eqb l g) c m) l)) ⌝ }
 {
     let p = find1(groups, GROUP_WIDTH, k, g);
     match p {
         Place::Found(i) => {
-            let row = grown_row(groups, GROUP_WIDTH * i, c);
+            let row = grown_row(groups, GROUP_WIDTH * i, c, m);
             put1(groups, k, &row)
         }
         Place::Missing(_) => {
-            let row = [g, c.grid, 1, c.x, c.y, c.z, c.x, c.y, c.z];
+            let row = [g, c.grid, 1, m, c.x, c.y, c.z, c.x, c.y, c.z];
             put1(groups, k, &row)
         }
     }
 }
 
-// The group records of the cells with ids are written; the answer is their number.
-pub fn build_records(ids: &[u64], n: usize, groups: &mut [u64]) -> usize
-    requires { ⌜ ((t : Ids) × HeldTable (now ids) n t × (now groups ≡ replicate (length (now groups)) 0) × (groupWidth * n ≤ length (now groups))) ⌝ }
-    ensures { λ r. ⌜ ((t : Ids) → HeldTable (now (ids .entry)) n t → HeldGroups (now (groups .exit)) r (records t)) ⌝ }
+// The group records of the cells with ids are written, with the entities that are counted in each cell; the answer is the number of records.
+pub fn build_records(ids: &[u64], n: usize, counts: &[u64], groups: &mut [u64]) -> usize
+    requires { ⌜ ((e : List (ℕ × Cell)) × (t : Ids) × HeldTable (now ids) n t × HeldCounts (now counts) (now ids) n e × (length e < 9223372036854775808) × (now groups ≡ replicate (length (now groups)) 0) × (groupWidth * n ≤ length (now groups))) ⌝ }
+    ensures { λ r. ⌜ ((e : List (ℕ × Cell)) (t : Ids) → HeldTable (now (ids .entry)) n t → HeldCounts (now (counts .entry)) (now (ids .entry)) n e → HeldGroups (now (groups .exit)) r (records e t)) ⌝ }
 {
     let mut k = 0;
     let mut i = 0;
@@ -97,6 +99,7 @@ pub fn build_records(ids: &[u64], n: usize, groups: &mut [u64]) -> usize
             groups,
             k,
             cell_at(ids, ID_WIDTH * i),
+            counts[i],
             ids[ID_WIDTH * i + CELL_ID],
         );
         i += 1;

@@ -29,9 +29,9 @@ cellsRight ents n cells m ids k =
     && (tidy idWidth mostCells k ids
     && (equal same (keys (idsIn k ids)) (standingIn n ents) && equal same (keys (cellsIn m cells)) (standingIn n ents)))
 
--- 5. The rows of g groups are the records of k cells with an id.
-unfoldable pub recordsRight : List ℕ → ℕ → List ℕ → ℕ → Bool
-recordsRight ids k groups g = tidy groupWidth mostCells g groups && equal sameRecord (groupsIn g groups) (records (idsIn k ids))
+-- 5. The rows of g groups are the records of k cells with an id, in which n entities stand.
+unfoldable pub recordsRight : List ℕ → ℕ → List ℕ → ℕ → List ℕ → ℕ → Bool
+recordsRight ents n ids k groups g = tidy groupWidth mostCells g groups && equal sameRecord (groupsIn g groups) (records (entitiesIn n ents) (idsIn k ids))
 
 -- 7. The cells of n entities, and of the rows that each net list has, are in range.
 unfoldable pub coordinatesRight : List ℕ → ℕ → List ℕ → ℕ → List ℕ → ℕ → Bool

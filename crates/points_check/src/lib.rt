@@ -28,7 +28,7 @@ ghost use Rattle.layout.specs.Widths.{entityWidth, cellWidth, netWidth, idWidth
 ghost use Rattle.layout.specs.Rows.{entitiesIn, netIn, idsIn};
 ghost use Rattle.layout.specs.State.{groupsLen};
 ghost use Rattle.points_check.specs.Lines.{cellsAt};
-ghost use Rattle.points_check.specs.Marks.{Markable, Marked};
+ghost use Rattle.points_check.specs.Marks.{Countable, Counted};
 ghost use Rattle.points_check.specs.Points.{entitiesRight, standingIn, cellsRight, recordsRight, coordinatesRight, netsRight};
 
 // 1. Whether n entities are distinct, they and the m occupied cells within number, and the spare words zero.
@@ -55,10 +55,10 @@ fn same_cells(cells: &[u64], ids: &[u64], n: usize) -> bool
     true
 }
 
-// The rows of the cells that the entities stand in are marked; whether each of these cells has a row.
-fn mark_rows(ents: &[u64], n: usize, cells: &[u64], m: usize, marks: &mut [u64]) -> bool
-    requires { ⌜ Markable (now ents) n (now cells) m (now marks) ⌝ }
-    ensures { λ r. ⌜ (r ≡ all (has same (keys (table4 cellWidth m (now (cells .entry))))) (values (entitiesIn n (now (ents .entry))))) × (r ≡ true → Marked (values (entitiesIn n (now (ents .entry)))) (λ j. cellAt (now (cells .entry)) (cellWidth * j)) m (now (marks .exit))) × (length (now (marks .exit)) ≡ length (now (marks .entry))) ⌝ }
+// The entities that stand in each row's cell are counted; whether each of their cells has a row.
+fn count_rows(ents: &[u64], n: usize, cells: &[u64], m: usize, counts: &mut [u64]) -> bool
+    requires { ⌜ Countable (now ents) n (now cells) m (now counts) ⌝ }
+    ensures { λ r. ⌜ (r ≡ all (has same (keys (table4 cellWidth m (now (cells .entry))))) (values (entitiesIn n (now (ents .entry))))) × (r ≡ true → Counted (values (entitiesIn n (now (ents .entry)))) (λ j. cellAt (now (cells .entry)) (cellWidth * j)) m (now (counts .exit))) × (length (now (counts .exit)) ≡ length (now (counts .entry))) ⌝ }
 {
     let mut i = 0;
     while i < n {
@@ -66,7 +66,7 @@ fn mark_rows(ents: &[u64], n: usize, cells: &[u64], m: usize, marks: &mut [u64])
         let p = find4(cells, CELL_WIDTH, m, c);
         match p {
             Place::Found(j) => {
-                marks[j] = 1;
+                counts[j] = counts[j] + 1;
                 i += 1;
             }
             Place::Missing(_) => {
@@ -77,14 +77,14 @@ fn mark_rows(ents: &[u64], n: usize, cells: &[u64], m: usize, marks: &mut [u64])
     true
 }
 
-// Whether the first n marks are set.
-fn all_marked(marks: &[u64], n: usize) -> bool
-    requires { ⌜ n ≤ length (now marks) ⌝ }
-    ensures { λ r. ⌜ r ≡ all (ltb 0) (take n (now (marks .entry))) ⌝ }
+// Whether none of the first n numbers is 0.
+fn all_counted(counts: &[u64], n: usize) -> bool
+    requires { ⌜ n ≤ length (now counts) ⌝ }
+    ensures { λ r. ⌜ r ≡ all (ltb 0) (take n (now (counts .entry))) ⌝ }
 {
     let mut i = 0;
     while i < n {
-        if marks[i] == 0 {
+        if counts[i] == 0 {
             return false;
         }
         i += 1;
@@ -97,11 +97,11 @@ fn stood_in(ents: &[u64], n: usize, cells: &[u64], m: usize) -> bool
     requires { ⌜ (isTable4 cellWidth m (now cells) ≡ true) × (entityWidth * n ≤ length (now ents)) × (m ≤ mostCells) ⌝ }
     ensures { λ r. ⌜ r ≡ equal same (keys (table4 cellWidth m (now (cells .entry)))) (standingIn n (now (ents .entry))) ⌝ }
 {
-    let mut marks = [0u64; MOST_CELLS];
-    if !mark_rows(ents, n, cells, m, &mut marks) {
+    let mut counts = [0u64; MOST_CELLS];
+    if !count_rows(ents, n, cells, m, &mut counts) {
         return false;
     }
-    all_marked(&marks, m)
+    all_counted(&counts, m)
 }
 
 // 2. Whether the rows of k cells with an id and those of m occupied cells, each held once, are exactly the cells that n entities stand in.
@@ -140,13 +140,22 @@ fn same_words(a: &[u64], b: &[u64]) -> bool
 }
 
 // 5. Whether the rows of g groups are the records of the cells with an id: one for each id, its grid, corners and counts exact.
-pub fn records_right(ids: &[u64], n: usize, groups: &[u64], g: usize) -> bool
-    requires { ⌜ (isTable4 idWidth n (now ids) ≡ true) × (n ≤ mostCells) × (length (now groups) ≡ groupsLen) ⌝ }
-    ensures { λ r. ⌜ r ≡ recordsRight (now (ids .entry)) n (now (groups .entry)) g ⌝ }
+pub fn records_right(
+    ents: &[u64],
+    n: usize,
+    ids: &[u64],
+    k: usize,
+    groups: &[u64],
+    g: usize,
+) -> bool
+    requires { ⌜ (entityWidth * n ≤ length (now ents)) × (isTable4 idWidth k (now ids) ≡ true) × (k ≤ mostCells) × (length (now groups) ≡ groupsLen) × (all (has same (keys (table4 idWidth k (now ids)))) (values (entitiesIn n (now ents))) ≡ true) ⌝ }
+    ensures { λ r. ⌜ r ≡ recordsRight (now (ents .entry)) n (now (ids .entry)) k (now (groups .entry)) g ⌝ }
 {
+    let mut counts = [0u64; MOST_CELLS];
+    count_rows(ents, n, ids, k, &mut counts);
     let mut built = [0u64; GROUPS_LEN];
-    let k = partition::build_records(ids, n, &mut built);
-    if k != g {
+    let r = partition::build_records(ids, k, &counts, &mut built);
+    if r != g {
         return false;
     }
     same_words(&built, groups)

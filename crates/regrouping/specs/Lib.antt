@@ -1,1 +1,2 @@
 pub mod Regrouping
+pub mod Laws

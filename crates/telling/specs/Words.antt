@@ -55,10 +55,10 @@ abbrev pub numberWords : Option ℕ → List ℕ
 numberWords (some m) = 1 ∷ m ∷ []
 numberWords none = 0 ∷ 0 ∷ []
 
--- A group: found, grid, count, low x, y, z, high x, y, z.
+-- A group: found, grid, cell count, entity count, low x, y, z, high x, y, z.
 abbrev pub groupWords : Option Shown → List ℕ
-groupWords (some s) = 1 ∷ s .grid ∷ s .count ∷ axisWords (s .low) (axisWords (s .high) [])
-groupWords none = 0 ∷ 0 ∷ 0 ∷ 0 ∷ 0 ∷ 0 ∷ 0 ∷ 0 ∷ 0 ∷ []
+groupWords (some s) = 1 ∷ s .grid ∷ s .count ∷ s .entities ∷ axisWords (s .low) (axisWords (s .high) [])
+groupWords none = 0 ∷ 0 ∷ 0 ∷ 0 ∷ 0 ∷ 0 ∷ 0 ∷ 0 ∷ 0 ∷ 0 ∷ []
 
 -- A list: found, how many it holds.
 abbrev pub listingWords : Bool × ℕ → List ℕ

@@ -190,7 +190,7 @@ pub fn tell_flooding(told: &mut [u64], a: Flooding) -> u64
 
 // What is told of a group; the answer is its number.
 pub fn tell_group(told: &mut [u64], a: GroupOf) -> u64
-    requires { ⌜ 9 ≤ length (now told) ⌝ }
+    requires { ⌜ 10 ≤ length (now told) ⌝ }
     ensures { λ r. ⌜ _≡_ {A = ℕ × List ℕ} (r, now (told .exit)) (telling (numbered groupWords (groupTold a)) (now (told .entry))) ⌝ }
 {
     match a {
@@ -201,6 +201,7 @@ pub fn tell_group(told: &mut [u64], a: GroupOf) -> u64
                 1,
                 s.grid,
                 s.count,
+                s.entities,
                 word(low.x),
                 word(low.y),
                 word(low.z),
@@ -212,7 +213,7 @@ pub fn tell_group(told: &mut [u64], a: GroupOf) -> u64
             0
         }
         GroupOf::NotFound => {
-            let words = [0u64; 9];
+            let words = [0u64; 10];
             tell(told, &words);
             0
         }

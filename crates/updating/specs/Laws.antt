@@ -1,5 +1,6 @@
 pub mod Longer
 pub mod Known
+pub mod Counts
 pub mod Steps
 pub mod Writing
 pub mod Answers

@@ -3,6 +3,7 @@ use Prim.Native.Nat.{ℕ, suc, _+_, _-_, _*_, _≤_, _<_}
 use mathlib.Core.Path.{_≡_}
 use mathlib.Core.List.{List, _∷_}
 use lib.ListN.{length, replicate}
+use Rattle.model.specs.Lists.{keys}
 use Rattle.model.specs.Cells.{Cell, touch26}
 use Rattle.model.specs.Occupancy.{Batch, occupied, playBatch}
 use Rattle.model.specs.Groups.{regroup}
@@ -15,6 +16,7 @@ use Rattle.map.specs.Held.{crowdOf}
 use Rattle.partition.specs.Held.{HeldCells}
 use Rattle.batch_events.specs.Playing.{Ready}
 use Rattle.regrouping.specs.declared.Made.{Made}
+use Rattle.regrouping.specs.Regrouping.{Counted}
 use Rattle.updating.specs.Known.{Known}
 
 -- The words are all zero.
@@ -52,8 +54,8 @@ pub record Opened (w ents cells crowd : List ℕ) (n : Counts) : Type 0 where
   pub emptied-none : n .emptied ≡ 0
 
 -- The groups of the state of words w can be copied to the words ids and regrouped there, and the records built in the words groups, after
--- the cells o are newly occupied and the cells e newly emptied.
-pub record CanRegroup (w ids groups occ : List ℕ) (p : ℕ) (emp : List ℕ) (m : ℕ) (o e : List Cell) : Type 0 where
+-- the cells o are newly occupied and the cells e newly emptied; the words counts count the entities in each cell that has an id then.
+pub record CanRegroup (w ids counts groups occ : List ℕ) (p : ℕ) (emp : List ℕ) (m : ℕ) (o e : List Cell) (entities : List (ℕ × Cell)) : Type 0 where
   pub known : Known w
   pub ids-blank : Blank ids
   pub ids-room : idSpace ≤ length ids
@@ -65,12 +67,13 @@ pub record CanRegroup (w ids groups occ : List ℕ) (p : ℕ) (emp : List ℕ) (
   pub few : length (regroup touch26 o e (decode w .groups) .ids) ≤ mostCells
   pub next-room : decode w .groups .next + p < 18446744073709551616
   pub next-fits : regroup touch26 o e (decode w .groups) .next < 18446744073709551616
+  pub counted : Counted counts entities (keys (regroup touch26 o e (decode w .groups) .ids))
+  pub few-entities : length entities ≤ mostEntities
 
 -- The events of the batch b, which is accepted, are played, and the state of words w is still to be written.
-pub record Finishes (w ents cells occ emp : List ℕ) (n : Counts) (b : Batch) : Type 0 where
+pub record Finishes (w ents cells crowd occ emp : List ℕ) (n : Counts) (b : Batch) : Type 0 where
   pub known : Known w
   pub accepted : update touch26 (decode w) b .0 ≡ 0
-  pub crowd : List ℕ
   pub ready : Ready ents cells crowd occ emp n (occupied (decode w .occupancy)) (playBatch touch26 b (decode w .occupancy))
 
 -- The words of a header: how many rows each table has, the next id, zeros.

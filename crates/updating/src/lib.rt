@@ -3,6 +3,7 @@ use batch_events::play_batch;
 use layout::CELL_COUNT;
 use layout::CELL_WIDTH;
 use layout::CELLS_LEN;
+use layout::CROWD_COUNT;
 use layout::CROWD_WIDTH;
 use layout::EMPTIED_COUNT;
 use layout::ENTITIES_LEN;
@@ -31,13 +32,15 @@ use writing::write_back;
 use writing::write_front;
 ghost use mathlib.Core.Path.{_≡_};
 ghost use mathlib.Core.List.{List, _++_};
-ghost use Prim.Native.Nat.{_+_, _*_, _≤_};
-ghost use lib.ListN.{length, drop};
+ghost use Prim.Native.Nat.{ℕ, _+_, _*_, _≤_};
+ghost use lib.ListN.{length, take, drop};
+ghost use Rattle.model.specs.Lists.{values};
 ghost use Rattle.model.specs.Cells.{Cell, touch26};
 ghost use Rattle.model.specs.Occupancy.{Batch};
 ghost use Rattle.model.specs.Groups.{regroup};
 ghost use Rattle.model.specs.Update.{mostCells, accepted, update};
 ghost use Rattle.layout.specs.Widths.{crowdWidth, moveWidth};
+ghost use Rattle.layout.specs.Rows.{idsIn};
 ghost use Rattle.layout.specs.State.{entitiesLen, cellsLen, netLen, stateLen, encode, decode, nextId};
 ghost use Rattle.batch.specs.Words.{batchOf, early};
 ghost use Rattle.regrouping.specs.Regrouping.{Regrouped};
@@ -62,22 +65,35 @@ fn open_map(state: &[u64], ents: &mut [u64], cells: &mut [u64], crowd: &mut [u64
     }
 }
 
-// The cells with an id are copied out and regrouped, and the group records are built.
+// How many stand in each of the n cells of the crowd is copied out, in their order.
+fn counts_of(crowd: &[u64], n: usize, counts: &mut [u64])
+    requires { ⌜ (crowdWidth * n ≤ length (now crowd)) × (n ≤ length (now counts)) ⌝ }
+    ensures { λ _. ⌜ take n (now (counts .exit)) ≡ values (idsIn n (now (crowd .entry))) ⌝ }
+{
+    let mut i = 0;
+    while i < n {
+        counts[i] = crowd[CROWD_WIDTH * i + CROWD_COUNT];
+        i += 1;
+    }
+}
+
+// The cells with an id are copied out and regrouped, and the group records are built, with the entities counted in each cell.
 fn regroup_state(
     state: &[u64],
     ids: &mut [u64],
+    counts: &[u64],
     groups: &mut [u64],
     occ: &[u64],
     p: usize,
     emp: &[u64],
     m: usize,
 ) -> Made
-    requires { ⌜ ((o : List Cell) × (e : List Cell) × CanRegroup (now state) (now ids) (now groups) (now occ) p (now emp) m o e) ⌝ }
-    ensures { λ r. ⌜ ((o e : List Cell) → CanRegroup (now (state .entry)) (now (ids .entry)) (now (groups .entry)) (now (occ .entry)) p (now (emp .entry)) m o e → Regrouped (now (ids .exit)) (now (groups .exit)) r (regroup touch26 o e (decode (now (state .entry)) .groups))) ⌝ }
+    requires { ⌜ ((o : List Cell) × (e : List Cell) × (entities : List (ℕ × Cell)) × CanRegroup (now state) (now ids) (now counts) (now groups) (now occ) p (now emp) m o e entities) ⌝ }
+    ensures { λ r. ⌜ ((o e : List Cell) (entities : List (ℕ × Cell)) → CanRegroup (now (state .entry)) (now (ids .entry)) (now (counts .entry)) (now (groups .entry)) (now (occ .entry)) p (now (emp .entry)) m o e entities → Regrouped (now (ids .exit)) (now (groups .exit)) r (regroup touch26 o e (decode (now (state .entry)) .groups)) entities) ⌝ }
 {
     write_row(ids, 0, id_words(state));
     let n = count_at(state, ID_COUNT);
-    regroup_and_record(ids, n, state[NEXT_ID], groups, occ, p, emp, m)
+    regroup_and_record(ids, n, state[NEXT_ID], counts, groups, occ, p, emp, m)
 }
 
 // The header of a state with these counts.
@@ -96,15 +112,25 @@ fn header(n: Counts, g: Made) -> [u64; HEADER_LEN]
 }
 
 // After the events of an accepted batch: the groups are regrouped, and the whole state is written.
-fn finish(state: &mut [u64], ents: &[u64], cells: &[u64], occ: &[u64], emp: &[u64], n: Counts)
-    requires { ⌜ ((b : Batch) × Finishes (now state) (now ents) (now cells) (now occ) (now emp) n b × (entitiesLen ≤ length (now ents)) × (cellsLen ≤ length (now cells)) × (netLen ≤ length (now occ)) × (netLen ≤ length (now emp))) ⌝ }
-    ensures { λ _. ⌜ ((b : Batch) → Finishes (now (state .entry)) (now (ents .entry)) (now (cells .entry)) (now (occ .entry)) (now (emp .entry)) n b → now (state .exit) ≡ encode (accepted touch26 (decode (now (state .entry))) b) ++ drop stateLen (now (state .entry))) ⌝ }
+fn finish(
+    state: &mut [u64],
+    ents: &[u64],
+    cells: &[u64],
+    crowd: &[u64],
+    occ: &[u64],
+    emp: &[u64],
+    n: Counts,
+)
+    requires { ⌜ ((b : Batch) × Finishes (now state) (now ents) (now cells) (now crowd) (now occ) (now emp) n b × (entitiesLen ≤ length (now ents)) × (cellsLen ≤ length (now cells)) × (netLen ≤ length (now occ)) × (netLen ≤ length (now emp))) ⌝ }
+    ensures { λ _. ⌜ ((b : Batch) → Finishes (now (state .entry)) (now (ents .entry)) (now (cells .entry)) (now (crowd .entry)) (now (occ .entry)) (now (emp .entry)) n b → now (state .exit) ≡ encode (accepted touch26 (decode (now (state .entry))) b) ++ drop stateLen (now (state .entry))) ⌝ }
 {
+    let mut counts = [0u64; MOST_CELLS];
+    counts_of(crowd, n.cells, &mut counts);
     let mut ids = [0u64; IDS_LEN + IDS_LEN];
     let mut groups = [0u64; GROUPS_LEN];
     let p = n.occupied;
     let m = n.emptied;
-    let g = regroup_state(state, &mut ids, &mut groups, occ, p, emp, m);
+    let g = regroup_state(state, &mut ids, &counts, &mut groups, occ, p, emp, m);
     let head = header(n, g);
     write_front(state, &head, ents, cells, occ, emp);
     write_back(state, &ids, &groups);
@@ -137,6 +163,6 @@ pub fn apply_batch(state: &mut [u64], batch: &[u64], removals: usize, moves: usi
         return broken;
     }
     let c = p.counts;
-    finish(state, &ents, &cells, &occ, &emp, c);
+    finish(state, &ents, &cells, &crowd, &occ, &emp, c);
     0
 }

@@ -73,7 +73,7 @@ module _ (w : List ℕ) (sure : Sure w) where
 
   records-asc : Asc ltb (keys (decode w .records))
   records-asc =
-      subst (Asc ltb) (sym (ap keys (ok .records-are) ∙ records-keys (decode w .groups .ids))) (ascending-asc numbers (values (decode w .groups .ids)))
+      subst (Asc ltb) (sym (ap keys (ok .records-are) ∙ records-keys (decode w .occupancy .entities) (decode w .groups .ids))) (ascending-asc numbers (values (decode w .groups .ids)))
 
   -- The groups are a table.
   pub groups-table : isTable1 groupWidth (groupCount w) (groupWords w) ≡ true

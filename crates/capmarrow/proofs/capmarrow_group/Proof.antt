@@ -13,7 +13,7 @@ use Rattle.capmarrow.proofs.capmarrow_group.Tie as tie
 returns : tie.Need-returns
 returns c =
     let s = c .before .before .before in
-    tells-short 9 (numbered groupWords (groupOf (s .args .state .now) (s .args .id))) (s .args .told .now) (c .if1 .taken)
+    tells-short 10 (numbered groupWords (groupOf (s .args .state .now) (s .args .id))) (s .args .told .now) (c .if1 .taken)
 
 group-requires : tie.Need-group-requires
 group-requires c κs = search needs
@@ -28,7 +28,7 @@ returns-2 : tie.Need-returns-2
 returns-2 c =
     let t = c .before .before in
     let s = c .before .before .before .before .before .before .before .before in
-    tells-long 9 (numbered groupWords (groupOf (s .args .state .now) (s .args .id))) (s .args .told .now) (c .before .before .before .before .before .if1 .left) (t .tell-group .result, t .tell-group .last .0)
+    tells-long 10 (numbered groupWords (groupOf (s .args .state .now) (s .args .id))) (s .args .told .now) (c .before .before .before .before .before .if1 .left) (t .tell-group .result, t .tell-group .last .0)
     (t .tell-group .ensures ∙ ap (λ (a : Told (Option Shown)). telling (numbered groupWords a) (s .args .told .now)) (t .before .group .ensures))
 
 pub capmarrow-group-spec : {M : Type 1} → statement M

@@ -58,7 +58,7 @@ returns-4 : tie.Need-returns-4
 returns-4 c = broken4 (c .before .before .before .before .before .before .before .before .before .args .state .now) (one (c .before .before .before .before .before .before)) (two (c .before .before .before .before)) (three (c .before .before)) (sym (c .before .ids-shared .ensures) ∙ not-true _ (c .if4 .taken))
 
 records-exact-requires : tie.Need-records-exact-requires
-records-exact-requires c κs = (c .before .before .before .before .before .before .before .before .before .pre, two (c .before .before .before .before))
+records-exact-requires c κs = (c .before .before .before .before .before .before .before .before .before .pre, one (c .before .before .before .before .before .before), two (c .before .before .before .before))
 
 returns-5 : tie.Need-returns-5
 returns-5 c = broken5 (c .before .before .before .before .before .before .before .before .before .before .before .args .state .now) (one (c .before .before .before .before .before .before .before .before)) (two (c .before .before .before .before .before .before)) (three (c .before .before .before .before)) (four (c .before .before)) (sym (c .before .records-exact .ensures) ∙ not-true _ (c .if5 .taken))

@@ -3,18 +3,19 @@ use Prim.Native.Nat.{ℕ, _*_, _≤_}
 use native.Mathlib.Omega.{arith}
 use mathlib.Core.Path.{_≡_, refl, sym, ap, _∙_, subst}
 use mathlib.Core.Bool.{Bool, true, _&&_}
-use mathlib.Core.List.{List}
+use mathlib.Core.List.{List, List·Memᴰ as Mem}
 use lib.Dec.{eqb→eq, leb, ltb}
 use lib.ListN.{length, drop}
 use borrow.Author.Tests.{leb-true, le-leb}
 use Rattle.component.specs.Laws.Tests.{both}
-use Rattle.model.specs.Lists.{all, keys, values, isAscending}
-use Rattle.model.specs.Cells.{Cell, below, touch26}
+use Rattle.model.specs.Lists.{all, has, keys, values, isAscending}
+use Rattle.model.specs.Cells.{Cell, same, below, touch26}
 use Rattle.model.specs.Masks.{maskOf, masked}
 use Rattle.model.specs.Update.{mostEntities, mostCells}
-use Rattle.model.specs.Laws.Tests.{T-true}
-use Rattle.model.specs.Laws.Members.{all-out}
-use Rattle.model.specs.Laws.Sorted.{Asc}
+use Rattle.model.specs.Laws.Tests.{T-true, true-of}
+use Rattle.model.specs.Laws.Orders.{cells}
+use Rattle.model.specs.Laws.Members.{all-in, all-out, has-of}
+use Rattle.model.specs.Laws.Sorted.{Asc, ascending-in}
 use Rattle.model.specs.Laws.Masks.{rows-of-keys}
 use Rattle.model.specs.Laws.Shared.{sharedIn}
 use Rattle.table.specs.Rows.{cell, areZero, table1, table4, isTable1, isTable4, isTableOf}
@@ -62,7 +63,7 @@ module _ (w : List ℕ) where
   unfolding cellsRight point2 decode
   point2-is = refl
 
-  pub point5-is : recordsRight (idWords w) (idCount w) (groupWords w) (groupCount w) ≡ point5 w
+  pub point5-is : recordsRight (entityWords w) (entityCount w) (idWords w) (idCount w) (groupWords w) (groupCount w) ≡ point5 w
   unfolding recordsRight point5 decode
   point5-is = refl
 
@@ -124,6 +125,17 @@ module _ (w : List ℕ) (long : longEnough w ≡ true) where
   -- What point 2 says of the tables.
   pub tables : point2 w ≡ true → Tabled (entityWords w) (entityCount w) (cellWords w) (cellCount w) (idWords w) (idCount w)
   tables e = tabled (entityWords w) (entityCount w) (cellWords w) (cellCount w) (idWords w) (idCount w) cells-room-for ids-room-for (point2-is w ∙ e)
+
+  -- Each entity's cell has an id, where point 2 holds.
+  pub all-with-id : point2 w ≡ true → all (has same (keys (table4 idWidth (idCount w) (idWords w)))) (values (entitiesIn (entityCount w) (entityWords w))) ≡ true
+  all-with-id e =
+      let l : List Cell = values (entitiesIn (entityCount w) (entityWords w)) in
+      true-of (all (has same (keys (table4 idWidth (idCount w) (idWords w)))) l)
+      (all-in (has same (keys (table4 idWidth (idCount w) (idWords w)))) l (λ c m. has-of cells (subst (λ (k : List Cell). Mem c k) (sym (tables e .ids-are)) (ascending-in cells l m))))
+
+  -- The rows of the entities are there, where point 1 holds.
+  pub entities-there : point1 w ≡ true → entityWidth * entityCount w ≤ length (entityWords w)
+  entities-there e = omega (arith, entities-room (entityCount w) (few-rows w e .0), entities-long w long)
 
   counts-agree : point2 w ≡ true → cellCount w ≡ idCount w
   counts-agree e = as-many (entityWords w) (entityCount w) (cellWords w) (cellCount w) (idWords w) (idCount w) cells-room-for ids-room-for (point2-is w ∙ e)

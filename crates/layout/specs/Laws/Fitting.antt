@@ -29,10 +29,10 @@ use Rattle.model.specs.Laws.Consistency.{Ok, ok-out}
 use Rattle.layout.specs.Facts.{Fits}
 
 -- There are no more group records than cells with an id.
-records-few : (ids : Ids) → length (records ids) ≤ length ids
-records-few ids =
-    let a = keys-length (records ids) in
-    let b = ap length (records-keys ids) in
+records-few : (entities : List (ℕ × Cell)) (ids : Ids) → length (records entities ids) ≤ length ids
+records-few entities ids =
+    let a = keys-length (records entities ids) in
+    let b = ap length (records-keys entities ids) in
     omega (arith, ascending-length numbers (values ids), each-length (λ (p : Cell × ℕ). p .1) ids)
 
 module _ (s : State) (ok : Ok touch26 s) where
@@ -52,7 +52,7 @@ module _ (s : State) (ok : Ok touch26 s) where
         newly-occupied = ok .few-occupied;
         newly-emptied = ok .few-emptied;
         ids = ids;
-        groups = omega (arith, records-few (s .groups .ids), ap length (ok .records-are));
+        groups = omega (arith, records-few (s .occupancy .entities) (s .groups .ids), ap length (ok .records-are));
       }
 
 -- A consistent state fits.

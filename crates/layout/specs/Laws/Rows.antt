@@ -34,7 +34,7 @@ id-written c (a ∷ []) e = refl
 id-written c (a ∷ b ∷ ws) e = absurd (omega arith)
 
 -- The words of a group's row are written as they were read.
-pub group-written : (k : ℕ) (ws : List ℕ) → length ws ≡ 8 → groupRow (groupOf (k, ws)) ≡ (k, ws)
+pub group-written : (k : ℕ) (ws : List ℕ) → length ws ≡ 9 → groupRow (groupOf (k, ws)) ≡ (k, ws)
 group-written k [] e = absurd (omega arith)
 group-written k (a ∷ []) e = absurd (omega arith)
 group-written k (a ∷ b ∷ []) e = absurd (omega arith)
@@ -43,8 +43,9 @@ group-written k (a ∷ b ∷ c ∷ d ∷ []) e = absurd (omega arith)
 group-written k (a ∷ b ∷ c ∷ d ∷ f ∷ []) e = absurd (omega arith)
 group-written k (a ∷ b ∷ c ∷ d ∷ f ∷ g ∷ []) e = absurd (omega arith)
 group-written k (a ∷ b ∷ c ∷ d ∷ f ∷ g ∷ h ∷ []) e = absurd (omega arith)
-group-written k (a ∷ b ∷ c ∷ d ∷ f ∷ g ∷ h ∷ i ∷ []) e = refl
-group-written k (a ∷ b ∷ c ∷ d ∷ f ∷ g ∷ h ∷ i ∷ j ∷ ws) e = absurd (omega arith)
+group-written k (a ∷ b ∷ c ∷ d ∷ f ∷ g ∷ h ∷ i ∷ []) e = absurd (omega arith)
+group-written k (a ∷ b ∷ c ∷ d ∷ f ∷ g ∷ h ∷ i ∷ j ∷ []) e = refl
+group-written k (a ∷ b ∷ c ∷ d ∷ f ∷ g ∷ h ∷ i ∷ j ∷ l ∷ ws) e = absurd (omega arith)
 
 -- The words of a net list's row are written as they were read.
 pub net-written : (c : Cell) (ws : List ℕ) → length ws ≡ 0 → netRow c ≡ (c, ws)

@@ -16,7 +16,7 @@ use Rattle.table.specs.Laws.Kinds.{number-lawful, cell-lawful}
 use Rattle.table.specs.Laws.Images.{table-facts}
 use Rattle.table.specs.Laws.Words.{rest-at}
 use Rattle.table.specs.Laws.Answers.{found-below, found-rest, missing-none}
-use Rattle.layout.specs.Widths.{entityWidth, entityCell, cellWidth, idWidth, cellId, groupWidth, groupGrid, groupCells, groupLow, groupHigh}
+use Rattle.layout.specs.Widths.{entityWidth, entityCell, cellWidth, idWidth, cellId, groupWidth, groupGrid, groupCells, groupEntities, groupLow, groupHigh}
 use Rattle.layout.specs.Rows.{idOf, groupOf, entitiesIn, cellsIn, idsIn, groupsIn}
 use Rattle.told.specs.Told.{seen}
 use Rattle.lookups.specs.Rows.{groupAt}
@@ -102,15 +102,16 @@ module _ (n : ℕ) (s : List ℕ) (k : ℕ) (i : ℕ) (ok : isTable1 groupWidth 
       let f : List ℕ → Group = λ v. groupOf (k, v) .1 in
       let a = word groupWidth n s i 1 0 (groupWidth * i + groupGrid) h (omega arith) (omega arith) in
       let b = word groupWidth n s i 1 1 (groupWidth * i + groupCells) h (omega arith) (omega arith) in
-      let lx = word groupWidth n s i 1 2 (groupWidth * i + groupLow) h (omega arith) (omega arith) in
-      let ly = word groupWidth n s i 1 3 (groupWidth * i + groupLow + 1) h (omega arith) (omega arith) in
-      let lz = word groupWidth n s i 1 4 (groupWidth * i + groupLow + 2) h (omega arith) (omega arith) in
-      let hx = word groupWidth n s i 1 5 (groupWidth * i + groupHigh) h (omega arith) (omega arith) in
-      let hy = word groupWidth n s i 1 6 (groupWidth * i + groupHigh + 1) h (omega arith) (omega arith) in
-      let hz = word groupWidth n s i 1 7 (groupWidth * i + groupHigh + 2) h (omega arith) (omega arith) in
+      let m = word groupWidth n s i 1 2 (groupWidth * i + groupEntities) h (omega arith) (omega arith) in
+      let lx = word groupWidth n s i 1 3 (groupWidth * i + groupLow) h (omega arith) (omega arith) in
+      let ly = word groupWidth n s i 1 4 (groupWidth * i + groupLow + 1) h (omega arith) (omega arith) in
+      let lz = word groupWidth n s i 1 5 (groupWidth * i + groupLow + 2) h (omega arith) (omega arith) in
+      let hx = word groupWidth n s i 1 6 (groupWidth * i + groupHigh) h (omega arith) (omega arith) in
+      let hy = word groupWidth n s i 1 7 (groupWidth * i + groupHigh + 1) h (omega arith) (omega arith) in
+      let hz = word groupWidth n s i 1 8 (groupWidth * i + groupHigh + 2) h (omega arith) (omega arith) in
       get-each eqb f (table1 groupWidth n s) k
       ∙ ap (seen f) (found-rest number number-lawful groupWidth n s k i ok e)
-      ∙ (λ t. some (record { grid = a t; count = b t; low = record { x = lx t; y = ly t; z = lz t }; high = record { x = hx t; y = hy t; z = hz t } }))
+      ∙ (λ t. some (record { grid = a t; count = b t; entities = m t; low = record { x = lx t; y = ly t; z = lz t }; high = record { x = hx t; y = hy t; z = hz t } }))
 
   -- A group that is missing is none.
   pub group-missing : Missing i ≡ placeOf ltb (keys (table1 groupWidth n s)) k → get eqb (groupsIn n s) k ≡ none

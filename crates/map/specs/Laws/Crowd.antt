@@ -11,6 +11,7 @@ use lib.ListN.{length}
 use Rattle.model.specs.Lists.{keep, any, has, add, without, each, keys, get, put, dropKey}
 use Rattle.model.specs.Cells.{Cell, same, below}
 use Rattle.model.specs.Occupancy.{Occupancy, occupied, standsIn, enter, leave}
+use Rattle.model.specs.Crowd.{howMany, tallied}
 use Rattle.model.specs.Laws.Tests.{cond-yes, cond-no, T-true, T-false, true-of, false-of, nltb-of}
 use Rattle.model.specs.Laws.Orders.{Ordered, numbers, cells, same-of, differ, is-or}
 use Rattle.model.specs.Laws.Members.{keep-each, keep-shorter, each-in, each-out, each-ext, each-each, each-same, keep-out, has-of, of-has}
@@ -18,7 +19,7 @@ use Rattle.model.specs.Laws.Sorted.{Asc, add-out, add-in, add-self, add-asc, ad
 use Rattle.model.specs.Laws.Tables.{At, Free, asc-mem-at, key-at, key-free, free-key, of-free, get-put-self, get-put-other, get-drop-other, get-drop-self, free-of, put-asc, drop-asc, put-old, mem-put-out, put-self, put-in, table-equal, table-same}
 use Rattle.model.specs.Laws.Occupied.{Sound, occupied-asc, occupied-enter, occupied-leave, occupied-stands, at-occupied}
 use Rattle.layout.specs.Rows.{idRow}
-use Rattle.map.specs.Held.{howMany, tallied, tally, crowdOf, counted}
+use Rattle.map.specs.Held.{tally, crowdOf, counted}
 use Rattle.map.specs.Laws.Each.{under, get-each}
 
 -- Some member passes exactly if those that pass are not none.

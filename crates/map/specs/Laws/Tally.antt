@@ -11,6 +11,7 @@ use lib.Seq.{drop-length}
 use Rattle.model.specs.Lists.{keep, add, ascending, each, keys, values, put, get}
 use Rattle.model.specs.Cells.{Cell, same, below}
 use Rattle.model.specs.Occupancy.{Occupancy}
+use Rattle.model.specs.Crowd.{howMany, tallied}
 use Rattle.model.specs.Laws.Tests.{cond-yes, cond-no}
 use Rattle.model.specs.Laws.Orders.{cells, differ}
 use Rattle.model.specs.Laws.Members.{keep-append, each-append, each-length, once-shorter, mem-or}
@@ -24,7 +25,7 @@ use Rattle.table.specs.Laws.Kinds.{cell-lawful}
 use Rattle.table.specs.Laws.Words.{entry-at, take-table, table-length, rest-at}
 use Rattle.table.specs.Laws.Next.{room-space, room-there}
 use Rattle.map.specs.Told.{TableIs}
-use Rattle.map.specs.Held.{howMany, tallied, tally, crowdOf, counted}
+use Rattle.map.specs.Held.{tally, crowdOf, counted}
 use Rattle.map.specs.Laws.Each.{keys-each, image-shows, shows-count}
 use Rattle.map.specs.Laws.Crowd.{tallied-keys, tallied-put, tallied-counted, crowd-tally}
 

@@ -33,7 +33,7 @@ pub record Ok (touch : Cell → Cell → Bool) (s : State) : Type 0 where
   pub few-cells : length (occupied (s .occupancy)) ≤ mostCells
   pub id-cells : keys (s .groups .ids) ≡ occupied (s .occupancy)
   pub shared : Shared touch (s .groups .ids)
-  pub records-are : s .records ≡ records (s .groups .ids)
+  pub records-are : s .records ≡ records (s .occupancy .entities) (s .groups .ids)
   pub under : (g : ℕ) → Mem g (values (s .groups .ids)) → g < s .groups .next
   pub range-entities : (c : Cell) → Mem c (values (s .occupancy .entities)) → T (cellInRange c)
   pub range-occupied : (c : Cell) → Mem c (s .occupancy .newlyOccupied) → T (cellInRange c)
@@ -58,16 +58,19 @@ corner-self : (p : Corner) → T (sameCorner p p)
 corner-self p = and-both (eqb (p .x) (p .x)) _ (eqb-refl (p .x)) (and-both (eqb (p .y) (p .y)) _ (eqb-refl (p .y)) (eqb-refl (p .z)))
 
 pub record-eq : (p q : ℕ × Group) → T (sameRecord p q) → p ≡ q
-record-eq p q t = λ i. (id i, record { grid = grid i; count = count i; low = low i; high = high i })
+record-eq p q t = λ i. (id i, record { grid = grid i; count = count i; entities = entities i; low = low i; high = high i })
   where
-    t1 : T (eqb (p .1 .grid) (q .1 .grid) && (eqb (p .1 .count) (q .1 .count) && (sameCorner (p .1 .low) (q .1 .low) && sameCorner (p .1 .high) (q .1 .high))))
+    t1 : T (eqb (p .1 .grid) (q .1 .grid) && (eqb (p .1 .count) (q .1 .count) && (eqb (p .1 .entities) (q .1 .entities) && (sameCorner (p .1 .low) (q .1 .low) && sameCorner (p .1 .high) (q .1 .high)))))
     t1 = and-snd (eqb (p .0) (q .0)) _ t
 
-    t2 : T (eqb (p .1 .count) (q .1 .count) && (sameCorner (p .1 .low) (q .1 .low) && sameCorner (p .1 .high) (q .1 .high)))
+    t2 : T (eqb (p .1 .count) (q .1 .count) && (eqb (p .1 .entities) (q .1 .entities) && (sameCorner (p .1 .low) (q .1 .low) && sameCorner (p .1 .high) (q .1 .high))))
     t2 = and-snd (eqb (p .1 .grid) (q .1 .grid)) _ t1
 
-    t3 : T (sameCorner (p .1 .low) (q .1 .low) && sameCorner (p .1 .high) (q .1 .high))
+    t3 : T (eqb (p .1 .entities) (q .1 .entities) && (sameCorner (p .1 .low) (q .1 .low) && sameCorner (p .1 .high) (q .1 .high)))
     t3 = and-snd (eqb (p .1 .count) (q .1 .count)) _ t2
+
+    t4 : T (sameCorner (p .1 .low) (q .1 .low) && sameCorner (p .1 .high) (q .1 .high))
+    t4 = and-snd (eqb (p .1 .entities) (q .1 .entities)) _ t3
 
     id : p .0 ≡ q .0
     id = eqb→eq _ _ (and-fst (eqb (p .0) (q .0)) _ t)
@@ -78,18 +81,22 @@ record-eq p q t = λ i. (id i, record { grid = grid i; count = count i; low = lo
     count : p .1 .count ≡ q .1 .count
     count = eqb→eq _ _ (and-fst (eqb (p .1 .count) (q .1 .count)) _ t2)
 
+    entities : p .1 .entities ≡ q .1 .entities
+    entities = eqb→eq _ _ (and-fst (eqb (p .1 .entities) (q .1 .entities)) _ t3)
+
     low : p .1 .low ≡ q .1 .low
-    low = corner-eq _ _ (and-fst (sameCorner (p .1 .low) (q .1 .low)) _ t3)
+    low = corner-eq _ _ (and-fst (sameCorner (p .1 .low) (q .1 .low)) _ t4)
 
     high : p .1 .high ≡ q .1 .high
-    high = corner-eq _ _ (and-snd (sameCorner (p .1 .low) (q .1 .low)) _ t3)
+    high = corner-eq _ _ (and-snd (sameCorner (p .1 .low) (q .1 .low)) _ t4)
 
 pub record-self : (p : ℕ × Group) → T (sameRecord p p)
 record-self p =
     and-both (eqb (p .0) (p .0)) _ (eqb-refl (p .0))
     (and-both (eqb (p .1 .grid) (p .1 .grid)) _ (eqb-refl (p .1 .grid))
     (and-both (eqb (p .1 .count) (p .1 .count)) _ (eqb-refl (p .1 .count))
-    (and-both (sameCorner (p .1 .low) (p .1 .low)) _ (corner-self (p .1 .low)) (corner-self (p .1 .high)))))
+    (and-both (eqb (p .1 .entities) (p .1 .entities)) _ (eqb-refl (p .1 .entities))
+    (and-both (sameCorner (p .1 .low) (p .1 .low)) _ (corner-self (p .1 .low)) (corner-self (p .1 .high))))))
 
 -- The two parts of a conjunction.
 both : (a b : Bool) → T (a && b) → T a × T b
@@ -196,7 +203,7 @@ module _ (touch : Cell → Cell → Bool) where
           few-cells = leb→le (length (occupied o)) mostCells (n2 .1);
           id-cells = equal-out same (cells .same-eq) (keys (s .groups .ids)) (standing s) (c1 .0) ∙ sym here;
           shared = shared-out touch flip (s .groups .ids) (p4 .0);
-          records-are = equal-out sameRecord record-eq (s .records) (records (s .groups .ids)) (p5 .0);
+          records-are = equal-out sameRecord record-eq (s .records) (records (s .occupancy .entities) (s .groups .ids)) (p5 .0);
           under = λ g m. ltb→lt g (s .groups .next) (all-out (λ g. ltb g (s .groups .next)) (values (s .groups .ids)) (p6 .0) m);
           range-entities = λ c m. all-out cellInRange (values (o .entities)) (r1 .0) m;
           range-occupied = λ c m. all-out cellInRange (o .newlyOccupied) (r2 .0) m;

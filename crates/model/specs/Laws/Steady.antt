@@ -28,7 +28,7 @@ pub record Steady (touch : Cell → Cell → Bool) (s : State) : Type 0 where
   pub sound : Sound touch (s .occupancy)
   pub fine : Fine touch [] (s .groups)
   pub idCells : keys (s .groups .ids) ≡ occupied (s .occupancy)
-  pub shown : s .records ≡ records (s .groups .ids)
+  pub shown : s .records ≡ records (s .occupancy .entities) (s .groups .ids)
 
 module _ (touch : Cell → Cell → Bool) where
   -- A fresh state.

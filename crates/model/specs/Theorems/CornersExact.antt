@@ -98,15 +98,15 @@ axis grow pick f g h [] p = refl
 axis grow pick f g h (c ∷ cs) p = axis grow pick f g h cs (grow p c) ∙ ap (λ (k : ℕ). run (λ (k : ℕ) (d : Cell). pick k (g d)) k cs) (h p c)
 
 -- The corners of a group are exact.
-module _ (c : Cell) (cs : List Cell) where
-  low : (f : Corner → ℕ) (g : Cell → ℕ) → ((p : Corner) (d : Cell) → f (lower p d) ≡ min (f p) (g d)) → f (cornerAt c) ≡ g c → Least g (c ∷ cs) (f (groupOf c cs .low))
+module _ (entities : List (ℕ × Cell)) (c : Cell) (cs : List Cell) where
+  low : (f : Corner → ℕ) (g : Cell → ℕ) → ((p : Corner) (d : Cell) → f (lower p d) ≡ min (f p) (g d)) → f (cornerAt c) ≡ g c → Least g (c ∷ cs) (f (groupOf entities c cs .low))
   low f g h e = subst (λ n. Least g (c ∷ cs) n) (ap (λ (k : ℕ). run (λ (k : ℕ) (d : Cell). min k (g d)) k cs) (sym e) ∙ sym (axis lower min f g h cs (cornerAt c))) (least g c cs)
 
-  high : (f : Corner → ℕ) (g : Cell → ℕ) → ((p : Corner) (d : Cell) → f (higher p d) ≡ max (f p) (g d)) → f (cornerAt c) ≡ g c → Largest g (c ∷ cs) (f (groupOf c cs .high))
+  high : (f : Corner → ℕ) (g : Cell → ℕ) → ((p : Corner) (d : Cell) → f (higher p d) ≡ max (f p) (g d)) → f (cornerAt c) ≡ g c → Largest g (c ∷ cs) (f (groupOf entities c cs .high))
   high f g h e = subst (λ n. Largest g (c ∷ cs) n) (ap (λ (k : ℕ). run (λ (k : ℕ) (d : Cell). max k (g d)) k cs) (sym e) ∙ sym (axis higher max f g h cs (cornerAt c))) (largest g c cs)
 
   -- What is shown of a first cell and others of its grid.
-  pub shows : ((d : Cell) → Mem d (c ∷ cs) → d .grid ≡ c .grid) → Shows (c ∷ cs) (groupOf c cs)
+  pub shows : ((d : Cell) → Mem d (c ∷ cs) → d .grid ≡ c .grid) → Shows (c ∷ cs) (groupOf entities c cs)
   shows one =
       record {
         grid = one;
@@ -131,16 +131,16 @@ module _ (touch : Cell → Cell → Bool) (laws : Touching touch) where
 
     -- The ids shown are those that a cell has, ascending.
     pub ids-exact : idList s ≡ ascending ltb (values (s .groups .ids))
-    ids-exact = ap keys (ok .records-are) ∙ records-keys (s .groups .ids)
+    ids-exact = ap keys (ok .records-are) ∙ records-keys (s .occupancy .entities) (s .groups .ids)
 
     -- The group of an id that a cell has shows exactly the cells with that id.
     pub corners-exact : (a : Cell) (g : ℕ) → idOf s a ≡ some g → (r : Group) × (groupBy s g ≡ some r) × Shows (members (s .groups .ids) g) r
     corners-exact a g e =
         let is : At same (s .groups .ids) a g = record { is = e } in
         let m = members-cons (s .groups .ids) (value-in (at-mem cells (s .groups .ids) is)) in (
-          groupOf (m .0) (m .1),
-          ap (λ (l : List (ℕ × Group)). get eqb l g) (ok .records-are) ∙ records-get (s .groups .ids) g ∙ ap shownOf (m .2),
-          subst (λ (l : List Cell). Shows l (groupOf (m .0) (m .1))) (sym (m .2)) (shows (m .0) (m .1) (λ d k. one (m .0) (m .1) (m .2) d k)),
+          groupOf (s .occupancy .entities) (m .0) (m .1),
+          ap (λ (l : List (ℕ × Group)). get eqb l g) (ok .records-are) ∙ records-get (s .occupancy .entities) (s .groups .ids) g ∙ ap (shownOf (s .occupancy .entities)) (m .2),
+          subst (λ (l : List Cell). Shows l (groupOf (s .occupancy .entities) (m .0) (m .1))) (sym (m .2)) (shows (s .occupancy .entities) (m .0) (m .1) (λ d k. one (m .0) (m .1) (m .2) d k)),
         )
       where
         fair : (c : Cell) → Mem c (members (s .groups .ids) g) → At same (s .groups .ids) c g

@@ -1,24 +1,25 @@
 -- Isolation: two runs that agree batch by batch on one grid's enter and leave events show the same of that grid, the ids up to a
 -- renaming that keeps their order.
-use Prim.Native.Nat.{ℕ}
+use Prim.Native.Nat.{ℕ, suc}
 use mathlib.Core.Path.{_≡_, refl, sym, _∙_, ap, subst}
 use mathlib.Core.Logic.{⊎-elim}
 use mathlib.Core.Bool.{Bool, true, false, cond}
 use mathlib.Core.List.{List, [], _∷_, List·Memᴰ as Mem, List·Memᴰ·cases-cons as mem-cons, List·Memᴰ·not-nil as mem-nil}
 use mathlib.Core.Option.{some}
 use lib.Dec.{T, eqb, eqb→eq}
-use Rattle.model.specs.Lists.{keep, has, keys, get, only, change}
+use lib.ListN.{length}
+use Rattle.model.specs.Lists.{keep, has, run, keys, get, only, change}
 use Rattle.component.specs.Around.{place, around}
 use Rattle.component.specs.Laws.Neighbours.{around-index}
 use Rattle.model.specs.Cells.{Cell, same, Offsets, all26, holdsOpposites, touchBy}
 use Rattle.model.specs.Occupancy.{Occupancy, Batch, occupied, playBatch}
 use Rattle.model.specs.Flood.{flood}
-use Rattle.model.specs.Groups.{Ids, members}
+use Rattle.model.specs.Groups.{Ids, members, standingAt, cornerAt, lower, higher}
 use Rattle.model.specs.Update.{State, accepted, update}
 use Rattle.model.specs.Questions.{whereIs, entitiesIn, idOf, nearby, onesOf, neighbourCount, cube}
 use Rattle.model.specs.Runs.{onGrid, passagesOn, Alike, start, next, renamed, SameOn}
 use Rattle.model.specs.Laws.Orders.{numbers, cells}
-use Rattle.model.specs.Laws.Members.{keep-in, keep-out, keep-ext, each-in}
+use Rattle.model.specs.Laws.Members.{keep-in, keep-out, keep-ext, each-in, key-out, of-has}
 use Rattle.model.specs.Laws.Tables.{At, at-mem, asc-mem-at, get-only-yes, keys-only}
 use Rattle.model.specs.Laws.Touching.{Touching, touching-by}
 use Rattle.model.specs.Laws.Records.{shownOf, records-get}
@@ -37,6 +38,17 @@ record Agree (touch : Cell → Cell → Bool) (grid : ℕ) (s t : State) : Type 
   right : Steady touch t
   views : viewed grid (s .occupancy) ≡ viewed grid (t .occupancy)
   sim : Sim (view (onGrid grid) (s .groups)) (view (onGrid grid) (t .groups))
+
+-- Of cells of the grid only the entities of the grid are counted.
+shown-on : (grid : ℕ) (l m : List (ℕ × Cell)) (cs : List Cell) → ((c : Cell) → Mem c cs → T (onGrid grid c)) →
+    keep (λ (p : ℕ × Cell). onGrid grid (p .1)) l ≡ keep (λ (p : ℕ × Cell). onGrid grid (p .1)) m → shownOf l cs ≡ shownOf m cs
+shown-on grid l m [] on e = refl
+shown-on grid l m (c ∷ cs) on e =
+    let counted : standingAt l (c ∷ cs) ≡ standingAt m (c ∷ cs) = seen l ∙ ap (λ k. standingAt k (c ∷ cs)) e ∙ sym (seen m) in
+    λ i. some (record { grid = c .grid; count = suc (length cs); entities = counted i; low = run lower (cornerAt c) cs; high = run higher (cornerAt c) cs })
+  where
+    seen : (k : List (ℕ × Cell)) → standingAt k (c ∷ cs) ≡ standingAt (keep (λ (p : ℕ × Cell). onGrid grid (p .1)) k) (c ∷ cs)
+    seen k = sym (ap length (keep-sub (λ (p : ℕ × Cell). has same (c ∷ cs) (p .1)) (λ (p : ℕ × Cell). onGrid grid (p .1)) k (λ q j t. on (q .1) (of-has cells (c ∷ cs) t))))
 
 module _ (touch : Cell → Cell → Bool) (laws : Touching touch) (grid : ℕ) where
   -- Two accepted batches that agree on the grid.
@@ -99,6 +111,16 @@ module _ (touch : Cell → Cell → Bool) (laws : Touching touch) (grid : ℕ) w
             (keep-out (λ (q : Cell × ℕ). onGrid grid (q .0)) (t .groups .ids)
             (subst (λ i. Mem (a, r .sim .f g) i) (sym (r .sim .same)) (each-in (λ (q : Cell × ℕ). (q .0, r .sim .f (q .1))) (live a g u p))) .0)
 
+    -- A group on the grid shows the same in both.
+    shown-same : (a : Cell) (g : ℕ) → T (onGrid grid a) → idOf s a ≡ some g → shownOf (t .occupancy .entities) (members (t .groups .ids) (r .sim .f g)) ≡ shownOf (s .occupancy .entities) (members (s .groups .ids) g)
+    shown-same a g u p =
+        ap (shownOf (t .occupancy .entities)) (members-same a g u p)
+        ∙ shown-on grid (t .occupancy .entities) (s .occupancy .entities) (members (s .groups .ids) g)
+        (λ c m. let q = key-out (keep (λ (x : Cell × ℕ). eqb g (x .1)) (s .groups .ids)) m in
+        let k = keep-out (λ (x : Cell × ℕ). eqb g (x .1)) (s .groups .ids) (q .1) in
+        subst (λ x. T (onGrid grid x)) (sym (q .2)) (group-on s (r .left) (record { is = p }) u (q .0) (k .0) (k .1)))
+        (sym (ap (λ (o : Occupancy). o .entities) (r .views)))
+
     -- Runs that agree show the same of the grid.
     same-on : SameOn touch grid s t
     same-on =
@@ -115,9 +137,9 @@ module _ (touch : Cell → Cell → Bool) (laws : Touching touch) (grid : ℕ) w
           ids = r .sim .same;
           inOrder = λ a b g h u v p q. r .sim .mono g h (r .sim .uses (a, g) (live a g u p)) (r .sim .uses (b, h) (live b h v q));
           groups = λ a g u p.
-              ap (λ l. get eqb l (r .sim .f g)) (r .right .shown) ∙ records-get (t .groups .ids) (r .sim .f g)
-              ∙ ap shownOf (members-same a g u p)
-              ∙ sym (ap (λ l. get eqb l g) (r .left .shown) ∙ records-get (s .groups .ids) g);
+              ap (λ l. get eqb l (r .sim .f g)) (r .right .shown) ∙ records-get (t .occupancy .entities) (t .groups .ids) (r .sim .f g)
+              ∙ shown-same a g u p
+              ∙ sym (ap (λ l. get eqb l g) (r .left .shown) ∙ records-get (s .occupancy .entities) (s .groups .ids) g);
         }
 
   -- Runs that are alike on a grid show the same of it.

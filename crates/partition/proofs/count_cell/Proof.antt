@@ -44,13 +44,13 @@ mul-grown-row : tie.Need-mul-grown-row
 mul-grown-row c = let r = row (c .before) in search needs
 
 grown-row-requires : tie.Need-grown-row-requires
-grown-row-requires c κs = let s = c .before .before .before .before .before .before .before in (row (c .before) .1, group-few (s .args .groups .now) (s .args .k) (s .pre .0) (s .pre .1) (s .args .g) (found (c .before)) (is-found (c .before)) (s .pre .2))
+grown-row-requires c κs = let s = c .before .before .before .before .before .before .before in (let f = group-few (s .args .groups .now) (s .args .k) (s .pre .0) (s .pre .1) (s .args .g) (found (c .before)) (is-found (c .before)) (s .pre .2) in (row (c .before) .1, f .0, f .1, s .pre .4))
 
 slice-aggregate-put1 : tie.Need-slice-aggregate-put1
 slice-aggregate-put1 c = search needs
 
 put1-requires : tie.Need-put1-requires
-put1-requires c κs = let s = c .before .before .before .before .before .before .before .before .before .before in count-asks (s .args .groups .now) (s .args .k) (s .pre .0) (s .pre .1) (s .args .g) (s .args .c) _ (c .before .before .grown-row .ensures ∙ group-grown (s .args .groups .now) (s .args .k) (s .pre .0) (s .pre .1) (s .args .g) (found (c .before .before .before .before)) (is-found (c .before .before .before .before)) (s .args .c)) (s .pre .3)
+put1-requires c κs = let s = c .before .before .before .before .before .before .before .before .before .before in count-asks (s .args .groups .now) (s .args .k) (s .pre .0) (s .pre .1) (s .args .g) (s .args .c) (s .args .m) _ (c .before .before .grown-row .ensures ∙ group-grown (s .args .groups .now) (s .args .k) (s .pre .0) (s .pre .1) (s .args .g) (found (c .before .before .before .before)) (is-found (c .before .before .before .before)) (s .args .c) (s .args .m)) (s .pre .3)
 
 enum-told : tie.Need-enum-told
 enum-told c = search needs
@@ -59,19 +59,19 @@ slice-aggregate-put1-2 : tie.Need-slice-aggregate-put1-2
 slice-aggregate-put1-2 c = search needs
 
 put1-requires-2 : tie.Need-put1-requires-2
-put1-requires-2 c κs = let s = c .before .before .before .before .before .before .before in count-asks (s .args .groups .now) (s .args .k) (s .pre .0) (s .pre .1) (s .args .g) (s .args .c) _ (group-first (s .args .groups .now) (s .args .k) (s .pre .0) (s .pre .1) (s .args .g) (missing (c .before .before)) (s .args .c) (is-missing (c .before .before))) (s .pre .3)
+put1-requires-2 c κs = let s = c .before .before .before .before .before .before .before in count-asks (s .args .groups .now) (s .args .k) (s .pre .0) (s .pre .1) (s .args .g) (s .args .c) (s .args .m) _ (group-first (s .args .groups .now) (s .args .k) (s .pre .0) (s .pre .1) (s .args .g) (missing (c .before .before)) (s .args .c) (s .args .m) (is-missing (c .before .before))) (s .pre .3)
 
 same-length : tie.Need-same-length
 same-length c = search needs
 
 returns : tie.Need-returns
-returns c = let s = c .before .before .before .before .before .before .before .before .before .before .before .before .before in λ l h. count-done (s .args .groups .now) (s .args .k) l h (s .args .g) (s .args .c) _ (c .before .before .before .before .before .grown-row .ensures ∙ group-grown (s .args .groups .now) (s .args .k) l h (s .args .g) (found (c .before .before .before .before .before .before .before)) (is-found (c .before .before .before .before .before .before .before)) (s .args .c)) (s .pre .3) _ _ (c .before .before .put1 .ensures)
+returns c = let s = c .before .before .before .before .before .before .before .before .before .before .before .before .before in λ l h. count-done (s .args .groups .now) (s .args .k) l h (s .args .g) (s .args .c) (s .args .m) _ (c .before .before .before .before .before .grown-row .ensures ∙ group-grown (s .args .groups .now) (s .args .k) l h (s .args .g) (found (c .before .before .before .before .before .before .before)) (is-found (c .before .before .before .before .before .before .before)) (s .args .c) (s .args .m)) (s .pre .3) _ _ (c .before .before .put1 .ensures)
 
 same-length-2 : tie.Need-same-length-2
 same-length-2 c = search needs
 
 returns-2 : tie.Need-returns-2
-returns-2 c = let s = c .before .before .before .before .before .before .before .before .before .before in λ l h. count-done (s .args .groups .now) (s .args .k) l h (s .args .g) (s .args .c) _ (group-first (s .args .groups .now) (s .args .k) l h (s .args .g) (missing (c .before .before .before .before .before)) (s .args .c) (is-missing (c .before .before .before .before .before))) (s .pre .3) _ _ (c .before .before .put12 .ensures)
+returns-2 c = let s = c .before .before .before .before .before .before .before .before .before .before in λ l h. count-done (s .args .groups .now) (s .args .k) l h (s .args .g) (s .args .c) (s .args .m) _ (group-first (s .args .groups .now) (s .args .k) l h (s .args .g) (missing (c .before .before .before .before .before)) (s .args .c) (s .args .m) (is-missing (c .before .before .before .before .before))) (s .pre .3) _ _ (c .before .before .put12 .ensures)
 
 pub count-cell-spec : {M : Type 1} → statement M
 count-cell-spec =

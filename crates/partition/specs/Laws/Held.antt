@@ -24,8 +24,8 @@ use Rattle.table.specs.Laws.Next.{stored-next, room-space}
 use Rattle.table.specs.Laws.Words.{table-length, entry-at, word-at, rest-at, number-at, cell-at}
 use lib.Seq.{drop-cons}
 use Rattle.layout.specs.Rows.{idRow, idOf, groupRow, netRow, idsImage, groupsImage, netImage, idsIn}
-use Rattle.layout.specs.Widths.{idWidth, cellId, netWidth, groupWidth, groupCells}
-use Rattle.partition.specs.Held.{HeldTable, HeldRows, HeldCells, HeldGroups, grown, grownWords, fewCells, rowIn}
+use Rattle.layout.specs.Widths.{idWidth, cellId, netWidth, groupWidth, groupCells, groupEntities}
+use Rattle.partition.specs.Held.{HeldTable, HeldRows, HeldCells, HeldGroups, grown, grownWords, few, rowIn}
 
 module _ {A B : Type 0} (f : A → B) where
   pub each-drop : (i : ℕ) (l : List A) → each f (drop i l) ≡ drop i (each f l)
@@ -210,7 +210,7 @@ module _ (words : List ℕ) (m : ℕ) (l : List Cell) (held : HeldCells words m 
 
 -- Group records.
 abbrev pub groupTail : Group → List ℕ
-groupTail r = r .grid ∷ r .count ∷ r .low .x ∷ r .low .y ∷ r .low .z ∷ r .high .x ∷ r .high .y ∷ r .high .z ∷ []
+groupTail r = r .grid ∷ r .count ∷ r .entities ∷ r .low .x ∷ r .low .y ∷ r .low .z ∷ r .high .x ∷ r .high .y ∷ r .high .z ∷ []
 
 module _ (words : List ℕ) (k : ℕ) (l : List (ℕ × Group)) (held : HeldGroups words k l) where
   groups-both : (isTableOf number groupWidth k words ≡ true) × (tableOf number groupWidth k words ≡ each groupRow l)
@@ -282,33 +282,34 @@ module _ (words : List ℕ) (k : ℕ) (l : List (ℕ × Group)) (held : HeldGrou
     group-word : (j : ℕ) → 1 + j < groupWidth → getD words (groupWidth * i + (1 + j)) 0 ≡ getD (groupTail (group-found .0)) j 0
     group-word j h = sym (rest-at groupWidth k words i 1 j (group-row .0) h) ∙ ap (λ (u : List ℕ). getD u j 0) (group-found .2)
 
-    -- Its cell count is below 2^63 where each is.
-    pub group-few : fewCells l → getD words (groupWidth * i + groupCells) 0 < 9223372036854775808
+    -- Its counts are below 2^63 where all are.
+    pub group-few : few l → (getD words (groupWidth * i + groupCells) 0 < 9223372036854775808) × (getD words (groupWidth * i + groupEntities) 0 < 9223372036854775808)
     group-few f =
-        let e : getD words (groupWidth * i + groupCells) 0 ≡ group-found .0 .count = group-word 1 (omega arith) in
-        let m : group-found .0 .count < 9223372036854775808 = f (g, group-found .0) (at-mem numbers l (record { is = group-found .1 })) in
-        omega arith
+        let d : getD words (groupWidth * i + groupCells) 0 ≡ group-found .0 .count = group-word 1 (omega arith) in
+        let e : getD words (groupWidth * i + groupEntities) 0 ≡ group-found .0 .entities = group-word 2 (omega arith) in
+        let m = f (g, group-found .0) (at-mem numbers l (record { is = group-found .1 })) in
+        (omega (arith, d, m .0), omega (arith, e, m .1))
 
     -- The words of the row with one cell more are those of the grown record.
-    pub group-grown : (c : Cell) → grownWords words (groupWidth * i) c ≡ g ∷ groupTail (grown (get eqb l g) c)
-    group-grown c =
+    pub group-grown : (c : Cell) (m : ℕ) → grownWords words (groupWidth * i) c m ≡ g ∷ groupTail (grown (get eqb l g) c m)
+    group-grown c m =
         let r : Group = group-found .0 in
         let key : getD words (groupWidth * i) 0 ≡ g =
         sym (number-at groupWidth k words (omega arith) i 0 (group-row .0)) ∙ found-is number number-lawful groupWidth k words g i 0 e in
         let more : getD words (groupWidth * i + groupCells) 0 + 1 ≡ suc (r .count) = omega (arith, group-word 1 (omega arith)) in
         let w : (j : ℕ) → 1 + j < groupWidth → getD words (groupWidth * i + (1 + j)) 0 ≡ getD (groupTail r) j 0 = group-word in
-        let one : grownWords words (groupWidth * i) c ≡ g ∷ groupTail (grown (some r) c) =
-        (λ t. key t ∷ w 0 (omega arith) t ∷ more t
-        ∷ min (w 2 (omega arith) t) (c .x) ∷ min (w 3 (omega arith) t) (c .y) ∷ min (w 4 (omega arith) t) (c .z)
-        ∷ max (w 5 (omega arith) t) (c .x) ∷ max (w 6 (omega arith) t) (c .y) ∷ max (w 7 (omega arith) t) (c .z) ∷ []) in
-        one ∙ ap (λ (o : Option Group). g ∷ groupTail (grown o c)) (sym (group-found .1))
+        let one : grownWords words (groupWidth * i) c m ≡ g ∷ groupTail (grown (some r) c m) =
+        (λ t. key t ∷ w 0 (omega arith) t ∷ more t ∷ (w 2 (omega arith) t + m)
+        ∷ min (w 3 (omega arith) t) (c .x) ∷ min (w 4 (omega arith) t) (c .y) ∷ min (w 5 (omega arith) t) (c .z)
+        ∷ max (w 6 (omega arith) t) (c .x) ∷ max (w 7 (omega arith) t) (c .y) ∷ max (w 8 (omega arith) t) (c .z) ∷ []) in
+        one ∙ ap (λ (o : Option Group). g ∷ groupTail (grown o c m)) (sym (group-found .1))
 
   -- The record of a first cell.
-  pub group-first : (i : ℕ) (c : Cell) → Missing i ≡ placeOf ltb (keys (tableOf number groupWidth k words)) g
-      → g ∷ c .grid ∷ 1 ∷ c .x ∷ c .y ∷ c .z ∷ c .x ∷ c .y ∷ c .z ∷ [] ≡ g ∷ groupTail (grown (get eqb l g) c)
-  group-first i c e = ap (λ (o : Option Group). g ∷ groupTail (grown o c)) (sym (group-missing i e))
+  pub group-first : (i : ℕ) (c : Cell) (m : ℕ) → Missing i ≡ placeOf ltb (keys (tableOf number groupWidth k words)) g
+      → g ∷ c .grid ∷ 1 ∷ m ∷ c .x ∷ c .y ∷ c .z ∷ c .x ∷ c .y ∷ c .z ∷ [] ≡ g ∷ groupTail (grown (get eqb l g) c m)
+  group-first i c m e = ap (λ (o : Option Group). g ∷ groupTail (grown o c m)) (sym (group-missing i e))
 
-  module _ (c : Cell) (row : List ℕ) (is : row ≡ g ∷ groupTail (grown (get eqb l g) c)) (room : groupWidth * k + groupWidth ≤ length words) where
+  module _ (c : Cell) (m : ℕ) (row : List ℕ) (is : row ≡ g ∷ groupTail (grown (get eqb l g) c m)) (room : groupWidth * k + groupWidth ≤ length words) where
     -- A record's row can be put.
     pub count-asks : (isTableOf number (length row) k words ≡ true) × (hasRoomOf number (length row) k words (key1 row) ≡ true)
     count-asks =
@@ -317,7 +318,7 @@ module _ (words : List ℕ) (k : ℕ) (l : List (ℕ × Group)) (held : HeldGrou
 
     -- What is held after the row of a grown record is put.
     pub count-done : (r : ℕ) (x : List ℕ) → _≡_ {A = ℕ × List ℕ} (r, x) (storedOf number (length words) (put ltb (key1 row) (rest1 row) (tableOf number (length row) k words)))
-        → HeldGroups x r (put ltb g (grown (get eqb l g) c) l)
+        → HeldGroups x r (put ltb g (grown (get eqb l g) c m) l)
     count-done r x q =
-        groups-put words k l held g (grown (get eqb l g) c) r x (omega arith)
+        groups-put words k l held g (grown (get eqb l g) c m) r x (omega arith)
         (subst (λ (u : List ℕ). _≡_ {A = ℕ × List ℕ} (r, x) (storedOf number (length words) (put ltb (key1 u) (rest1 u) (tableOf number (length u) k words)))) is q)

@@ -1,19 +1,20 @@
 -- What marks say of the cells where entities stand.
-use Prim.Native.Nat.{ℕ, _+_, _*_, _≤_, _<_}
+use Prim.Native.Nat.{ℕ, suc, _+_, _*_, _≤_, _<_}
 use native.Mathlib.Numerals.{add-one}
 use native.Mathlib.Omega.{arith}
 use mathlib.Core.Path.{_≡_, refl, sym, ap, _∙_, subst}
 use mathlib.Core.Logic.{⊎-elim}
-use mathlib.Core.Bool.{Bool, true, false, _||_}
+use mathlib.Core.Bool.{Bool, true, false, cond, _||_}
 use mathlib.Core.List.{List, [], _∷_, _++_, List·Memᴰ as Mem}
 use lib.Dec.{T, T-not, not-T, ltb}
-use lib.ListN.{length, take, getD, set, replicate, length-replicate, getD-replicate}
+use lib.ListN.{length, take, getD, set, replicate, length-replicate, getD-replicate, length-append}
 use lib.Seq.{take-suc, getD-set-same, getD-set-other, getD-take, length-take-le}
-use Rattle.model.specs.Lists.{any, all, has, equal, keys, ascending}
+use borrow.Author.Tests.{lt-ltb}
+use Rattle.model.specs.Lists.{any, all, has, keep, equal, keys, ascending}
 use Rattle.model.specs.Cells.{Cell, same, below}
 use Rattle.model.specs.Laws.Tests.{T-true, T-false, true-of, false-of, same-test}
 use Rattle.model.specs.Laws.Orders.{cells, numbers, is-or, differ}
-use Rattle.model.specs.Laws.Members.{all-in, all-out, has-of, of-has, equal-in, equal-out}
+use Rattle.model.specs.Laws.Members.{keep-append, keep-shorter, all-in, all-out, has-of, of-has, equal-in, equal-out}
 use Rattle.model.specs.Laws.Sorted.{asc-equal, ascending-asc, ascending-in, ascending-out}
 use Rattle.neighbourhood.specs.Laws.Lines.{getD-mem, mem-getD, asc-index}
 use Rattle.table.specs.declared.Place.the-variants.{Found}
@@ -25,32 +26,28 @@ use Rattle.layout.specs.Widths.{entityWidth, cellWidth}
 use Rattle.points_check.specs.Lines.{Lines}
 use Rattle.points_check.specs.Laws.Lines.{lines-at}
 use Rattle.points_check.specs.Laws.Readings.{key-lines}
-use Rattle.points_check.specs.Marks.{Marked, Markable}
+use Rattle.points_check.specs.Marks.{Counted, Marked, Countable}
 
--- What holds with one member more at the end.
-any-more : {A : Type 0} (p : A → Bool) (l : List A) (x : A) → any p (l ++ x ∷ []) ≡ (any p l || p x)
-any-more p [] x = go (p x)
+-- A list holds something that passes exactly if it keeps something.
+some-kept : {A : Type 0} (p : A → Bool) (l : List A) → ltb 0 (length (keep p l)) ≡ any p l
+some-kept p [] = refl
+some-kept p (x ∷ l) = go (p x) (some-kept p l)
   where
-    go : (b : Bool) → (b || false) ≡ b
-    go true = refl
-    go false = refl
-any-more p (y ∷ l) x = ap (λ b. p y || b) (any-more p l x) ∙ go (p y) (any p l) (p x)
-  where
-    go : (a b c : Bool) → (a || (b || c)) ≡ ((a || b) || c)
-    go true b c = refl
-    go false b c = refl
+    go : (b : Bool) → ltb 0 (length (keep p l)) ≡ any p l → ltb 0 (length (cond b (x ∷ keep p l) (keep p l))) ≡ (b || any p l)
+    go true e = lt-ltb 0 (suc (length (keep p l))) (omega arith)
+    go false e = e
 
-or-true : (a : Bool) → (a || true) ≡ true
-or-true true = refl
-or-true false = refl
+-- Rows that are counted are marked by their numbers.
+pub counted-marked : {l : List Cell} {at : ℕ → Cell} {m : ℕ} {counts : List ℕ} → Counted l at m counts → Marked l at m counts
+counted-marked {l} {at} q = record { is = λ j h. ap (ltb 0) (q .is j h) ∙ some-kept (same (at j)) l }
 
-or-false : (a : Bool) → (a || false) ≡ a
-or-false true = refl
-or-false false = refl
+-- Before the first member every number is 0.
+pub counted-none : (at : ℕ → Cell) (m : ℕ) (counts : List ℕ) → ((j : ℕ) → j < m → getD counts j 0 ≡ 0) → Counted [] at m counts
+counted-none at m counts f = record { is = f }
 
--- With no mark no cell is in the list.
-pub marked-none : (at : ℕ → Cell) (m : ℕ) (marks : List ℕ) → ((j : ℕ) → j < m → getD marks j 0 ≡ 0) → Marked [] at m marks
-marked-none at m marks f = record { is = λ j h. ap (ltb 0) (f j h) }
+-- No number passes that of the members.
+pub counted-few : {l : List Cell} {at : ℕ → Cell} {m : ℕ} {counts : List ℕ} → Counted l at m counts → (j : ℕ) → j < m → getD counts j 0 ≤ length l
+counted-few {l} {at} q j h = let e = q .is j h in omega (arith, keep-shorter (same (at j)) l)
 
 module _ (s : List ℕ) (m : ℕ) (ok : isTable4 cellWidth m s ≡ true) where
   abbrev K : List Cell
@@ -69,33 +66,45 @@ module _ (s : List ℕ) (m : ℕ) (ok : isTable4 cellWidth m s ≡ true) where
       asc-index cells K j k (at 0) (table-facts cell cellWidth m s ok .asc) (omega arith) (omega arith)
       (lines-at keyed j h (at 0) ∙ e ∙ sym (lines-at keyed k g (at 0)))
 
-  -- The row of a cell that is found is marked.
-  pub marked-more : {l : List Cell} {n : ℕ} {e : ℕ → Cell} (marks : List ℕ) (i j : ℕ) → Lines l n e → i < n → m ≤ length marks → Found j ≡ placeOf below K (e i)
-      → Marked (take i l) at m marks → Marked (take (i + 1) l) at m (set marks j 1)
-  marked-more {l} {n} {e} marks i j r h fit f q = record { is = now }
+  -- The row of a cell that is found has one more.
+  pub counted-more : {l : List Cell} {n : ℕ} {e : ℕ → Cell} (counts : List ℕ) (i j : ℕ) → Lines l n e → i < n → m ≤ length counts → Found j ≡ placeOf below K (e i)
+      → Counted (take i l) at m counts → Counted (take (i + 1) l) at m (set counts j (getD counts j 0 + 1))
+  counted-more {l} {n} {e} counts i j r h fit f q = record { is = now }
     where
+      within : j < m
+      within = found-below cell cell-lawful cellWidth m s (e i) j f
+
       there : at j ≡ e i
-      there = sym (lines-at keyed j (found-below cell cell-lawful cellWidth m s (e i) j f) (e i)) ∙ found-is cell cell-lawful cellWidth m s (e i) j (e i) f
+      there = sym (lines-at keyed j within (e i)) ∙ found-is cell cell-lawful cellWidth m s (e i) j (e i) f
 
       more : take (i + 1) l ≡ take i l ++ e i ∷ []
       more =
           let g : length l ≡ n = r .len in
           ap (λ k. take k l) (add-one i) ∙ take-suc l i (e i) (omega arith) ∙ ap (λ x. take i l ++ x ∷ []) (lines-at r i h (e i))
 
-      has-more : (a : Cell) → has same (take (i + 1) l) a ≡ (has same (take i l) a || same a (e i))
-      has-more a = ap (λ k. has same k a) more ∙ any-more (same a) (take i l) (e i)
+      -- How many there are of a cell, by whether the next member is it.
+      counted : (a : Cell) (b : Bool) → same a (e i) ≡ b → length (keep (same a) (take (i + 1) l)) ≡ cond b (length (keep (same a) (take i l)) + 1) (length (keep (same a) (take i l)))
+      counted a b d =
+          ap (λ k. length (keep (same a) k)) more ∙ ap length (keep-append (same a) (take i l) (e i ∷ [])) ∙ length-append (keep (same a) (take i l)) (keep (same a) (e i ∷ []))
+          ∙ ap (λ (t : Bool). length (keep (same a) (take i l)) + length (cond {A = List Cell} t (e i ∷ []) [])) d ∙ go b
+        where
+          go : (t : Bool) → length (keep (same a) (take i l)) + length (cond {A = List Cell} t (e i ∷ []) []) ≡ cond t (length (keep (same a) (take i l)) + 1) (length (keep (same a) (take i l)))
+          go true = refl
+          go false = omega arith
 
-      now : (k : ℕ) → k < m → ltb 0 (getD (set marks j 1) k 0) ≡ has same (take (i + 1) l) (at k)
+      now : (k : ℕ) → k < m → getD (set counts j (getD counts j 0 + 1)) k 0 ≡ length (keep (same (at k)) (take (i + 1) l))
       now k g =
           ⊎-elim
           (λ p.
-          ap (λ x. ltb 0 (getD (set marks j 1) x 0)) p
-          ∙ ap (ltb 0) (getD-set-same marks j 1 0 (let b = found-below cell cell-lawful cellWidth m s (e i) j f in omega arith))
-          ∙ sym (has-more (at k) ∙ ap (λ b. has same (take i l) (at k) || b) (true-of (same (at k) (e i)) (subst (λ x. T (same (at k) x)) (ap at p ∙ there) (cells .same-self (at k)))) ∙ or-true (has same (take i l) (at k))))
+          ap (λ x. getD (set counts j (getD counts j 0 + 1)) x 0) p
+          ∙ getD-set-same counts j (getD counts j 0 + 1) 0 (let b = within in omega arith)
+          ∙ ap (λ x. x + 1) (q .is j within)
+          ∙ sym (counted (at j) true (true-of (same (at j) (e i)) (subst (λ x. T (same (at j) x)) there (cells .same-self (at j)))))
+          ∙ ap (λ x. length (keep (same (at x)) (take (i + 1) l))) (sym p))
           (λ p.
-          ap (ltb 0) (getD-set-other marks j k 1 0 p)
+          getD-set-other counts j k (getD counts j 0 + 1) 0 p
           ∙ q .is k g
-          ∙ sym (has-more (at k) ∙ ap (λ b. has same (take i l) (at k) || b) (false-of (same (at k) (e i)) (differ cells (λ x. p (rows-differ k j g (found-below cell cell-lawful cellWidth m s (e i) j f) (x ∙ sym there))))) ∙ or-false (has same (take i l) (at k))))
+          ∙ sym (counted (at k) false (false-of (same (at k) (e i)) (differ cells (λ x. p (rows-differ k j g within (x ∙ sym there)))))))
           (is-or numbers k j)
 
   -- Where some entity's cell has no row, the cells are not those where entities stand.
@@ -146,7 +155,7 @@ module _ (s : List ℕ) (m : ℕ) (ok : isTable4 cellWidth m s ≡ true) where
   stood-yes {l} {marks} k e g h q f = f ∙ stood-is l marks e (omega arith) q
 
 -- Marks that are not set.
-pub cleared : (ents : List ℕ) (n : ℕ) (words : List ℕ) (m k : ℕ) → isTable4 cellWidth m words ≡ true → entityWidth * n ≤ length ents → m ≤ k → Markable ents n words m (replicate k 0)
+pub cleared : (ents : List ℕ) (n : ℕ) (words : List ℕ) (m k : ℕ) → isTable4 cellWidth m words ≡ true → entityWidth * n ≤ length ents → m ≤ k → Countable ents n words m (replicate k 0)
 cleared ents n words m k ok h g =
     let l = length-replicate {A = ℕ} k 0 in
     record { table = ok; there = h; space = omega arith; clear = λ j i. getD-replicate k j 0 0 (omega arith) }

@@ -69,7 +69,7 @@ returns c =
     let g = b .a .given .0 .0 in
     telling-by (λ (x : GroupOf). numbered groupWords (groupTold x)) (s .args .a) (GroupOf.Found g) (b .a .given .1) (s .args .told .now) (c .before .before .tell .last .0)
     _ (c .before .before .tell .ensures)
-    (λ i. 1 ∷ g .grid ∷ g .count
+    (λ i. 1 ∷ g .grid ∷ g .count ∷ g .entities
     ∷ (k .word .ensures ∙ ap axisWord (toZ-ofZ {w = w32} {z = g .low .x} (record { sfits = k .before .struct-told .given .0 .1 }))) i
     ∷ (l .word2 .ensures ∙ ap axisWord (toZ-ofZ {w = w32} {z = g .low .y} (record { sfits = l .before .struct-told2 .given .1 .0 .1 }))) i
     ∷ (m .word3 .ensures ∙ ap axisWord (toZ-ofZ {w = w32} {z = g .low .z} (record { sfits = m .before .struct-told3 .given .1 .1 .0 .1 }))) i

@@ -75,20 +75,23 @@ slice-aggregate-finish-2 : tie.Need-slice-aggregate-finish-2
 slice-aggregate-finish-2 c = sym (c .before .before .before .before .before .before .before .before .before .before .play-batch .kept .1 .0 ∙ c .before .before .before .before .before .before .before .before .before .before .before .before .before .before .before .before .before .before .before .open-map .kept .1 .1 .0 ∙ zeros cellSpace)
 
 slice-aggregate-finish-3 : tie.Need-slice-aggregate-finish-3
-slice-aggregate-finish-3 c = sym (c .before .before .before .before .before .before .before .before .before .before .before .play-batch .kept .1 .1 .1 .0 ∙ zeros netSpace)
+slice-aggregate-finish-3 c = sym (c .before .before .before .before .before .before .before .before .before .before .before .play-batch .kept .1 .1 .0 ∙ c .before .before .before .before .before .before .before .before .before .before .before .before .before .before .before .before .before .before .before .before .open-map .kept .1 .1 .1 .0 ∙ zeros crowdSpace)
 
 slice-aggregate-finish-4 : tie.Need-slice-aggregate-finish-4
-slice-aggregate-finish-4 c = sym (c .before .before .before .before .before .before .before .before .before .before .before .before .play-batch .kept .1 .1 .1 .1 .0 ∙ zeros netSpace)
+slice-aggregate-finish-4 c = sym (c .before .before .before .before .before .before .before .before .before .before .before .before .play-batch .kept .1 .1 .1 .0 ∙ zeros netSpace)
+
+slice-aggregate-finish-5 : tie.Need-slice-aggregate-finish-5
+slice-aggregate-finish-5 c = sym (c .before .before .before .before .before .before .before .before .before .before .before .before .before .play-batch .kept .1 .1 .1 .1 .0 ∙ zeros netSpace)
 
 finish-requires : tie.Need-finish-requires
 finish-requires c κs =
-    let s = c .before .before .before .before .before .before .before .before .before .before .before .before .before .before .before .before .before .before .before .before .before .before .before .before .before .before .before .before in
+    let s = c .before .before .before .before .before .before .before .before .before .before .before .before .before .before .before .before .before .before .before .before .before .before .before .before .before .before .before .before .before in
     let w = s .args .state .now in
-    let q = c .before .before .before .before .before .before .before .before .before .before .before .before .before .before .before .before .before .before .before .before .before .open-map in
+    let q = c .before .before .before .before .before .before .before .before .before .before .before .before .before .before .before .before .before .before .before .before .before .before .open-map in
     let d = map-ready w (s .pre .0) (q .last .1 .0) (q .last .1 .1 .0) (q .last .1 .1 .1 .0) (replicate netSpace 0) (replicate netSpace 0) (q .result) (q .ensures) (q .kept .1 .0 ∙ zeros entitySpace) (q .kept .1 .1 .0 ∙ zeros cellSpace) (q .kept .1 .1 .1 .0 ∙ zeros crowdSpace) (zeros-blank netSpace) (zeros netSpace) (zeros-blank netSpace) (zeros netSpace) in
     let m = batchOf (s .args .batch .now) (s .args .removals) (s .args .moves) in
-    let p = c .before .before .before .before .before .before .before .before .before .before .before .before .play-batch in
-    let z = c .before .before .before .before .before .before .if1 .left in
+    let p = c .before .before .before .before .before .before .before .before .before .before .before .before .before .play-batch in
+    let z = c .before .before .before .before .before .before .before .if1 .left in
     let x = p .ensures (occupied (decode w .occupancy)) (startBatch (decode w .occupancy)) d in (
       m,
       can-finish w (s .pre .0) m (s .pre .2) (p .result .number) (x .number) z (p .last .0) (p .last .1 .0) (p .last .1 .1 .0) (p .last .1 .1 .1 .0) (p .last .1 .1 .1 .1 .0) (p .result .counts) (x .ready z),
@@ -103,13 +106,13 @@ same-length-2 c = search needs
 
 returns-2 : tie.Need-returns-2
 returns-2 c =
-    let s = c .before .before .before .before .before .before .before .before .before .before .before .before .before .before .before .before .before .before .before .before .before .before .before .before .before .before .before .before .before .before .before in
+    let s = c .before .before .before .before .before .before .before .before .before .before .before .before .before .before .before .before .before .before .before .before .before .before .before .before .before .before .before .before .before .before .before .before in
     let w = s .args .state .now in
-    let q = c .before .before .before .before .before .before .before .before .before .before .before .before .before .before .before .before .before .before .before .before .before .before .before .before .open-map in
+    let q = c .before .before .before .before .before .before .before .before .before .before .before .before .before .before .before .before .before .before .before .before .before .before .before .before .before .open-map in
     let d = map-ready w (s .pre .0) (q .last .1 .0) (q .last .1 .1 .0) (q .last .1 .1 .1 .0) (replicate netSpace 0) (replicate netSpace 0) (q .result) (q .ensures) (q .kept .1 .0 ∙ zeros entitySpace) (q .kept .1 .1 .0 ∙ zeros cellSpace) (q .kept .1 .1 .1 .0 ∙ zeros crowdSpace) (zeros-blank netSpace) (zeros netSpace) (zeros-blank netSpace) (zeros netSpace) in
     let m = batchOf (s .args .batch .now) (s .args .removals) (s .args .moves) in
-    let p = c .before .before .before .before .before .before .before .before .before .before .before .before .before .before .before .play-batch in
-    let z = c .before .before .before .before .before .before .before .before .before .if1 .left in
+    let p = c .before .before .before .before .before .before .before .before .before .before .before .before .before .before .before .before .play-batch in
+    let z = c .before .before .before .before .before .before .before .before .before .before .if1 .left in
     let x = p .ensures (occupied (decode w .occupancy)) (startBatch (decode w .occupancy)) d in
     done-answer w (s .pre .0) m (s .pre .2) (p .result .number) (x .number) z (c .before .before .finish .last .0)
     (c .before .before .finish .ensures m (can-finish w (s .pre .0) m (s .pre .2) (p .result .number) (x .number) z (p .last .0) (p .last .1 .0) (p .last .1 .1 .0) (p .last .1 .1 .1 .0) (p .last .1 .1 .1 .1 .0) (p .result .counts) (x .ready z)))
@@ -134,6 +137,7 @@ apply-batch-spec =
     slice-aggregate-finish-2
     slice-aggregate-finish-3
     slice-aggregate-finish-4
+    slice-aggregate-finish-5
     finish-requires
     same-length-2
     returns-2)

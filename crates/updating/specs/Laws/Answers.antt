@@ -100,9 +100,9 @@ module _ (w : List ℕ) (k : Known w) (b : Batch) where
     broken-answer f = refused (decode w) b w n number f
 
     -- 0: the batch is accepted, and the state is still to be written.
-    pub can-finish : n ≡ 0 → (ents cells crowd occ emp : List ℕ) (c : Counts) → Ready ents cells crowd occ emp c (occupied (decode w .occupancy)) (playBatch touch26 b (decode w .occupancy)) → Finishes w ents cells occ emp c b
+    pub can-finish : n ≡ 0 → (ents cells crowd occ emp : List ℕ) (c : Counts) → Ready ents cells crowd occ emp c (occupied (decode w .occupancy)) (playBatch touch26 b (decode w .occupancy)) → Finishes w ents cells crowd occ emp c b
     can-finish q ents cells crowd occ emp c r =
-        record { known = k; accepted = number-none (decode w) b (sym q ∙ number); crowd = crowd; ready = r }
+        record { known = k; accepted = number-none (decode w) b (sym q ∙ number); ready = r }
 
     -- 0: the state is written.
     pub done-answer : n ≡ 0 → (v : List ℕ) → v ≡ encode (accepted touch26 (decode w) b) ++ drop stateLen w → (0, v) ≡ done w (update touch26 (decode w) b)

@@ -3,7 +3,8 @@ use Prim.Native.Nat.{ℕ, _*_, _≤_, _<_}
 use native.Mathlib.Omega.{arith}
 use mathlib.Core.Path.{_≡_, refl, sym, ap, _∙_, subst}
 use mathlib.Core.List.{List, List·Memᴰ as Mem, List·Memᴰ·not-nil as mem-nil}
-use lib.ListN.{length, replicate, length-replicate}
+use lib.ListN.{length, take, replicate, length-replicate}
+use Rattle.model.specs.Lists.{keys, values}
 use Rattle.model.specs.Cells.{Cell, below, touch26}
 use Rattle.model.specs.Occupancy.{Occupancy, Batch, occupied, startBatch, playBatch}
 use Rattle.model.specs.Groups.{regroup}
@@ -13,16 +14,16 @@ use Rattle.model.specs.Laws.Minus.{minus-self}
 use Rattle.model.specs.Laws.Sorted.{Asc, nil}
 use Rattle.model.specs.Laws.Tables.{keys-length}
 use Rattle.model.specs.Laws.Touching.{touching-26}
-use Rattle.model.specs.Laws.Occupied.{start-sound, occupied-asc}
+use Rattle.model.specs.Laws.Occupied.{Sound, start-sound, occupied-asc}
 use Rattle.model.specs.Laws.Accepted.{Accepts, accepts, update-accepted}
 use Rattle.model.specs.Laws.Consistency.{Ok, ok-in}
 use Rattle.model.specs.Theorems.StaysConsistent.{accepted-ok}
 use Rattle.model.specs.Theorems.UpdateIds.{next-fits}
 use Rattle.table.specs.Moves.{over}
 use Rattle.layout.specs.Widths.{crowdWidth}
-use Rattle.layout.specs.Rows.{entitiesImage, cellsImage, idsImage, entitiesIn}
+use Rattle.layout.specs.Rows.{entitiesImage, cellsImage, idsImage, entitiesIn, idsIn}
 use Rattle.layout.specs.State.{entitiesLen, cellsLen, netLen, idsLen, groupsLen, decode, entityWords, cellWords, idWords, cellCount, idCount, nextId}
-use Rattle.layout.specs.Laws.Images.{net-laws}
+use Rattle.layout.specs.Laws.Images.{net-laws, ids-laws}
 use Rattle.layout.specs.Laws.Lengths.{ids-room}
 use Rattle.map.specs.declared.Counts.{Counts}
 use Rattle.map.specs.Held.{tally, crowdOf}
@@ -30,8 +31,9 @@ use Rattle.map.specs.Laws.Crowd.{crowd-keys}
 use Rattle.map.specs.Laws.Tally.{crowd-of-words}
 use Rattle.partition.specs.Held.{HeldIds, HeldCells}
 use Rattle.batch_events.specs.Playing.{Roomy, Ready}
-use Rattle.regrouping.specs.Regrouping.{Regroups}
+use Rattle.regrouping.specs.Regrouping.{Counted, Regroups}
 use Rattle.updating.specs.Known.{Known}
+use Rattle.updating.specs.Laws.Counts.{crowd-values}
 use Rattle.updating.specs.Laws.Known.{entities-long, cells-long, ids-long, occupied-ranged}
 use Rattle.updating.specs.Laws.Longer.{Extends, entities-extend, cells-extend, ids-extend, loaded}
 use Rattle.updating.specs.Steps.{Blank, entitySpace, cellSpace, crowdSpace, netSpace, idSpace, groupSpace, Opened, CanRegroup, Finishes}
@@ -82,12 +84,13 @@ module _ (w : List ℕ) (k : Known w) (zeros : List ℕ) (z : Blank zeros) (row 
   ids-loaded q h =
       part-loaded ids-extend (decode w .groups .ids) idsLen (ids-long (decode w) (k .fits)) zeros z h row (q ∙ k .stands .id-words) s e l
 
+-- The crowd has a row for each occupied cell.
+crowd-length : (o : Occupancy) → Sound touch26 o → length (crowdOf o) ≡ length (occupied o)
+crowd-length o ok = sym (keys-length (crowdOf o)) ∙ ap length (crowd-keys touch26 o ok)
+
 module _ (w : List ℕ) (k : Known w) where
   abbrev o : Occupancy
   o = decode w .occupancy
-
-  crowd-length : length (crowdOf o) ≡ length (occupied o)
-  crowd-length = sym (keys-length (crowdOf o)) ∙ ap length (crowd-keys touch26 o (k .ok .sound))
 
   module _ (n : ℕ) (c : n ≡ length (o .entities)) (ents : List ℕ) (e : ents ≡ entitiesImage (length ents) (o .entities)) where
     -- What stands in each cell is the crowd.
@@ -96,7 +99,7 @@ module _ (w : List ℕ) (k : Known w) where
 
     -- There is room for the crowd.
     pub crowd-room : (m : ℕ) → crowdWidth * mostCells ≤ m → crowdWidth * length (tally (entitiesIn n ents)) ≤ m
-    crowd-room m h = omega (arith, h, ap length crowd-is, crowd-length, k .ok .few-cells)
+    crowd-room m h = omega (arith, h, ap length crowd-is, crowd-length o (k .ok .sound), k .ok .few-cells)
 
     -- The map is copied out.
     pub map-opened : (cels : List ℕ) → cels ≡ cellsImage (length cels) (o .masks) → (blank crowd : List ℕ) → length crowd ≡ length blank → crowd ≡ idsImage (length blank) (tally (entitiesIn n ents))
@@ -166,7 +169,7 @@ module _ (w : List ℕ) (k : Known w) where
       }
 
 -- A batch that is accepted, its events played.
-module _ {w ents cels occ emp : List ℕ} {n : Counts} {b : Batch} (f : Finishes w ents cels occ emp n b) where
+module _ {w ents cels crowd occ emp : List ℕ} {n : Counts} {b : Batch} (f : Finishes w ents cels crowd occ emp n b) where
   abbrev s : State
   s = decode w
 
@@ -220,10 +223,29 @@ module _ {w ents cels occ emp : List ℕ} {n : Counts} {b : Batch} (f : Finishes
   unfolding accepted
   opened-few = omega (arith, f .ready .held .stored .occupied-count, after-ok .few-occupied)
 
+  -- There are rows of the crowd for the cells, and few of them.
+  pub crowd-fits : (crowdWidth * n .cells ≤ length crowd) × (n .cells ≤ mostCells)
+  unfolding accepted
+  crowd-fits = (f .ready .held .crowd-fit, omega (arith, f .ready .held .stored .cells-count, keys-length (p .masks), after-ok .few-cells))
+
+  -- The rows of the crowd are the crowd.
+  crowd-read : idsIn (n .cells) crowd ≡ crowdOf p
+  crowd-read =
+      let c : n .cells ≡ length (crowdOf p) = f .ready .held .stored .cells-count ∙ sym (keys-length (p .masks)) ∙ sym (crowd-length p (f .ready .held .placed .sound)) in
+      (λ i. idsIn (c i) (f .ready .held .crowd-is i)) ∙ ids-laws .read (length crowd) (crowdOf p) (λ a m. tt)
+
+  -- The numbers of the crowd count the entities in each cell that has an id afterwards.
+  counted-after : (counts : List ℕ) → take (n .cells) counts ≡ values (idsIn (n .cells) crowd)
+      → Counted counts (p .entities) (keys (regroup touch26 (p .newlyOccupied) (p .newlyEmptied) (s .groups) .ids))
+  unfolding accepted
+  counted-after counts e =
+      subst (Counted counts (p .entities)) (sym (after-ok .id-cells))
+      (ap (λ (m : ℕ). take m counts) (keys-length (p .masks) ∙ sym (f .ready .held .stored .cells-count)) ∙ e ∙ ap values crowd-read ∙ crowd-values p)
+
   -- The groups can be regrouped.
-  pub finish-regroups : (ids groups : List ℕ) → Blank ids → idSpace ≤ length ids → Blank groups → groupSpace ≤ length groups
-      → CanRegroup w ids groups occ (n .occupied) emp (n .emptied) (p .newlyOccupied) (p .newlyEmptied)
-  finish-regroups ids groups z h y g =
+  pub finish-regroups : (ids counts groups : List ℕ) → Blank ids → idSpace ≤ length ids → take (n .cells) counts ≡ values (idsIn (n .cells) crowd) → Blank groups → groupSpace ≤ length groups
+      → CanRegroup w ids counts groups occ (n .occupied) emp (n .emptied) (p .newlyOccupied) (p .newlyEmptied) (p .entities)
+  finish-regroups ids counts groups z h t y g =
       record {
         known = f .known;
         ids-blank = z;
@@ -236,12 +258,14 @@ module _ {w ents cels occ emp : List ℕ} {n : Counts} {b : Batch} (f : Finishes
         few = few-after;
         next-room = omega (arith, opened-few, yes .ids-left);
         next-fits = next-after;
+        counted = counted-after counts t;
+        few-entities = f .ready .within .entities;
       }
 
 -- The cells with an id, copied out, can be regrouped.
-pub regroup-ready : {w ids groups occ : List ℕ} {p : ℕ} {emp : List ℕ} {m : ℕ} {o e : List Cell} → CanRegroup w ids groups occ p emp m o e
-    → (row words : List ℕ) → row ≡ idWords w → words ≡ over ids 0 row → length words ≡ length ids → (n : ℕ) → n ≡ idCount w → Regroups words n (nextId w) groups occ p emp m (decode w .groups) o e
-regroup-ready {w} {ids} {groups} {occ} {p} {emp} {m} {o} {e} x row words q g l n c =
+pub regroup-ready : {w ids counts groups occ : List ℕ} {p : ℕ} {emp : List ℕ} {m : ℕ} {o e : List Cell} {entities : List (ℕ × Cell)} → CanRegroup w ids counts groups occ p emp m o e entities
+    → (row words : List ℕ) → row ≡ idWords w → words ≡ over ids 0 row → length words ≡ length ids → (n : ℕ) → n ≡ idCount w → Regroups words n (nextId w) counts groups occ p emp m (decode w .groups) o e entities
+regroup-ready {w} {ids} {counts} {groups} {occ} {p} {emp} {m} {o} {e} {entities} x row words q g l n c =
     let k = x .known in
     let h : idsLen ≤ length ids = omega (arith, x .ids-room, ids-spare) in
     let r = ids-room (length (decode w .groups .ids)) (k .fits .ids) in
@@ -255,6 +279,8 @@ regroup-ready {w} {ids} {groups} {occ} {p} {emp} {m} {o} {e} x row words q g l n
       few = x .few;
       next-room = omega (arith, x .next-room, k .stands .next-id);
       next-fits = x .next-fits;
+      counted = x .counted;
+      few-entities = omega (arith, x .few-entities);
     }
 
 -- The map of a state and empty net lists, each table with a row to spare.

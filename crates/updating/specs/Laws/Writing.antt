@@ -22,7 +22,7 @@ use Rattle.updating.specs.Steps.{Finishes, headWords}
 use Rattle.updating.specs.Laws.Steps.{after-ok}
 
 -- All parts are written: the words of the state after an accepted batch.
-module _ {w ents cells occ emp : List ℕ} {n : Counts} {b : Batch} (f : Finishes w ents cells occ emp n b) where
+module _ {w ents cells crowd occ emp : List ℕ} {n : Counts} {b : Batch} (f : Finishes w ents cells crowd occ emp n b) where
   abbrev p : Occupancy
   p = playBatch touch26 b (decode w .occupancy)
 
@@ -35,7 +35,7 @@ module _ {w ents cells occ emp : List ℕ} {n : Counts} {b : Batch} (f : Finishe
   fits : Fits a
   fits = ok-fits a (after-ok f)
 
-  module _ (ids groups : List ℕ) (r : Made) (x : Regrouped ids groups r g)
+  module _ (ids groups : List ℕ) (r : Made) (x : Regrouped ids groups r g (p .entities))
       (he : entitiesLen ≤ length ents) (hc : cellsLen ≤ length cells) (ho : netLen ≤ length occ) (hm : netLen ≤ length emp) (hi : idsLen ≤ length ids) (hg : groupsLen ≤ length groups) where
     ents-part : take entitiesLen ents ≡ entitiesImage entitiesLen (a .occupancy .entities)
     unfolding accepted
@@ -59,7 +59,7 @@ module _ {w ents cells occ emp : List ℕ} {n : Counts} {b : Batch} (f : Finishe
 
     groups-part : take groupsLen groups ≡ groupsImage groupsLen (a .records)
     unfolding accepted
-    groups-part = front groups-extend (records (g .ids)) groupsLen (groups-long a fits) groups (x .groups-held .image) hg
+    groups-part = front groups-extend (records (p .entities) (g .ids)) groupsLen (groups-long a fits) groups (x .groups-held .image) hg
 
     -- The header of the counts is that of the state.
     head-part : headWords n r ≡ header a

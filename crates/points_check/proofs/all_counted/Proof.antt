@@ -10,18 +10,18 @@ use Prim.Native.Nat.{ℕ, _-_, _≤_}
 use native.Mathlib.Omega.{arith}
 use mathlib.Core.Path.{_≡_, refl, sym, ap, _∙_}
 use borrow.Author.Needs.{needs}
-use Rattle.points_check.proofs.all_marked.Statement.{statement}
-use Rattle.points_check.proofs.all_marked.Tie as tie
+use Rattle.points_check.proofs.all_counted.Statement.{statement}
+use Rattle.points_check.proofs.all_counted.Tie as tie
 
--- The first n marks, one by one.
-lined : (marks : List ℕ) (n : ℕ) → n ≤ length marks → Lines (take n marks) n (λ i. getD marks i 0)
-lined marks n h = lines-of (take n marks) 0 (length-take-le n marks h) (λ i k. getD-take n marks i 0 k)
+-- The first n counts, one by one.
+lined : (counts : List ℕ) (n : ℕ) → n ≤ length counts → Lines (take n counts) n (λ i. getD counts i 0)
+lined counts n h = lines-of (take n counts) 0 (length-take-le n counts h) (λ i k. getD-take n counts i 0 k)
 
 abbrev Inv-loop : tie.InvT-loop
-Inv-loop marks n i₀ i = all (ltb 0) (take n marks) ≡ all (ltb 0) (drop i (take n marks))
+Inv-loop counts n i₀ i = all (ltb 0) (take n counts) ≡ all (ltb 0) (drop i (take n counts))
 
 abbrev μ-loop : tie.MeasureT-loop
-μ-loop marks n i₀ i = n - i
+μ-loop counts n i₀ i = n - i
 
 loop-holds : tie.Need-loop-holds Inv-loop μ-loop
 loop-holds c = refl
@@ -36,7 +36,7 @@ returns : tie.Need-returns Inv-loop μ-loop
 returns c =
     let s = c .before .before .before .before in
     let l = c .before .before .before in
-    sym (l .loop .inv ∙ all-no (lined (s .args .marks .now) (s .args .n) (s .pre)) (ltb 0) (l .loop .i) (c .before .before .loop-test .taken) (ap (ltb 0) (c .if1 .taken)))
+    sym (l .loop .inv ∙ all-no (lined (s .args .counts .now) (s .args .n) (s .pre)) (ltb 0) (l .loop .i) (c .before .before .loop-test .taken) (ap (ltb 0) (c .if1 .taken)))
 
 add-i : tie.Need-add-i Inv-loop μ-loop
 add-i c = search needs
@@ -49,16 +49,16 @@ loop-again c =
     let s = c .before .before .before .before in
     let l = c .before .before .before in
     let h = c .if1 .left in
-    l .loop .inv ∙ all-next (lined (s .args .marks .now) (s .args .n) (s .pre)) (ltb 0) (l .loop .i) (c .before .before .loop-test .taken) (lt-ltb 0 (getD (s .args .marks .now) (l .loop .i) 0) (omega arith))
+    l .loop .inv ∙ all-next (lined (s .args .counts .now) (s .args .n) (s .pre)) (ltb 0) (l .loop .i) (c .before .before .loop-test .taken) (lt-ltb 0 (getD (s .args .counts .now) (l .loop .i) 0) (omega arith))
 
 returns-2 : tie.Need-returns-2 Inv-loop μ-loop
 returns-2 c =
     let s = c .before .before in
     let l = c .before in
-    sym (l .loop .inv ∙ all-end (lined (s .args .marks .now) (s .args .n) (s .pre)) (ltb 0) (l .loop .i) (c .loop-test .left))
+    sym (l .loop .inv ∙ all-end (lined (s .args .counts .now) (s .args .n) (s .pre)) (ltb 0) (l .loop .i) (c .loop-test .left))
 
-pub all-marked-spec : {M : Type 1} → statement M
-all-marked-spec =
+pub all-counted-spec : {M : Type 1} → statement M
+all-counted-spec =
     tie.close
     (tie.spec
     Inv-loop
