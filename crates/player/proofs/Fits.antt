@@ -7,10 +7,11 @@ use native.Mathlib.Omega.{arith}
 use borrow.Author.Tests.{leb-true, eqb-false}
 use lib.ListN.{length, getD, drop, length-append}
 use lib.Dec.{ltb, leb, eqb}
+use Rattle.little_endian.specs.Bytes.{numberAt}
 use Rattle.script.specs.declared.kinds.Moved.{Moved}
 use Rattle.script.specs.declared.kinds.Step.{Step}
 use Rattle.script.specs.declared.kinds.Step.the-variants.{Remove, Move, Run, Bad}
-use Rattle.script.specs.Records.{numberAt, lengthOf, movedOf, recordOf, cut, ended, stepOf, stepLen}
+use Rattle.script.specs.Records.{lengthOf, movedOf, recordOf, cut, ended, stepOf, stepLen}
 use Rattle.script.specs.Lines.{lineOf}
 
 -- A line fits where it was written.

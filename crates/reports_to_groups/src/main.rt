@@ -1,5 +1,6 @@
-// From reports in metres to groups: the reports of a batch become its moves, the yard is updated, and each entity is told with its
-// cell and its group.
+// From stored settings and reports in metres to groups: the settings of a grid make its frame, the reports of a batch become its
+// moves, the yard is updated, and each entity is told with its cell and its group.
+mod stored;
 mod telling;
 
 use layout::MOST_EVENTS;
@@ -8,15 +9,10 @@ use layout::STATE_LEN;
 use metres::Answer;
 use metres::Frame;
 use metres::Report;
+use settings::Reading;
 
 // The move that a report makes, behind the moves that a batch has; the answer is how many it has then.
-fn add_move(batch: &mut [u64], moves: usize, entity: u64, report: Report) -> usize {
-    let frame = Frame {
-        x: 100.0,
-        y: -50.0,
-        z: 0.0,
-        edge: 2.0,
-    };
+fn add_move(frame: Frame, batch: &mut [u64], moves: usize, entity: u64, report: Report) -> usize {
     let n = moves % MOST_EVENTS;
     match metres::event_of(frame, report, entity, 1) {
         Answer::Event(e) => {
@@ -48,25 +44,32 @@ fn play(state: &mut [u64], batch: &[u64], moves: usize) {
 }
 
 // Two tractors in touching cells and one apart; a lost receiver and a bad reading make no move.
-fn first(state: &mut [u64], batch: &mut [u64], nan: f64) {
-    let a = add_move(batch, 0, 1, Report::Fix(100.5, -49.5, 0.25));
-    let b = add_move(batch, a, 2, Report::Reckoned(99.5, -48.0, 0.0, 0.75));
-    let c = add_move(batch, b, 3, Report::Fix(105.0, -50.0, 0.0));
-    let d = add_move(batch, c, 4, Report::Nothing);
-    let n = add_move(batch, d, 4, Report::Fix(100.0, nan, 0.0));
+fn first(frame: Frame, state: &mut [u64], batch: &mut [u64], nan: f64) {
+    let a = add_move(frame, batch, 0, 1, Report::Fix(100.5, -49.5, 0.25));
+    let b = add_move(frame, batch, a, 2, Report::Reckoned(99.5, -48.0, 0.0, 0.75));
+    let c = add_move(frame, batch, b, 3, Report::Fix(105.0, -50.0, 0.0));
+    let d = add_move(frame, batch, c, 4, Report::Nothing);
+    let n = add_move(frame, batch, d, 4, Report::Fix(100.0, nan, 0.0));
     play(state, batch, n);
 }
 
 // A fourth tractor joins the groups; the second stays in its cell.
-fn second(state: &mut [u64], batch: &mut [u64]) {
-    let a = add_move(batch, 0, 4, Report::Fix(102.0, -50.0, 0.0));
-    let n = add_move(batch, a, 2, Report::Fix(98.0, -46.00000000000001, 1.0));
+fn second(frame: Frame, state: &mut [u64], batch: &mut [u64]) {
+    let a = add_move(frame, batch, 0, 4, Report::Fix(102.0, -50.0, 0.0));
+    let n = add_move(
+        frame,
+        batch,
+        a,
+        2,
+        Report::Fix(98.0, -46.00000000000001, 1.0),
+    );
     play(state, batch, n);
 }
 
 // It leaves, just below the cell where it stood, and the groups part.
-fn third(state: &mut [u64], batch: &mut [u64]) {
+fn third(frame: Frame, state: &mut [u64], batch: &mut [u64]) {
     let n = add_move(
+        frame,
         batch,
         0,
         4,
@@ -75,12 +78,23 @@ fn third(state: &mut [u64], batch: &mut [u64]) {
     play(state, batch, n);
 }
 
-fn main() {
+// Three batches in a fresh yard, in the frame of the grid.
+fn run(frame: Frame) {
     let mut state = [0u64; STATE_LEN];
     let mut batch = [0u64; 5 * MOVE_WIDTH];
     let zero = 0.0;
     yard::fresh(&mut state, 0);
-    first(&mut state, &mut batch, 0.0 / zero);
-    second(&mut state, &mut batch);
-    third(&mut state, &mut batch);
+    first(frame, &mut state, &mut batch, 0.0 / zero);
+    second(frame, &mut state, &mut batch);
+    third(frame, &mut state, &mut batch);
+}
+
+fn main() {
+    let mut bytes = [0u8; 72];
+    let n = stored::make(&mut bytes);
+    let read = settings::read_v2(&bytes, n, 1);
+    telling::settings(read);
+    if let Reading::Found(s) = read {
+        run(settings_frame::frame_of(s));
+    }
 }

@@ -4,6 +4,7 @@ use ask::Where;
 use component::CellId;
 use libc::STDOUT_FILENO;
 use refusal::Refusal;
+use settings::Reading;
 
 fn say(text: &[u8]) {
     io::write_all(STDOUT_FILENO, text);
@@ -29,6 +30,25 @@ fn cell(c: CellId) {
     coordinate(d.x);
     coordinate(d.y);
     coordinate(d.z);
+}
+
+// What the reader says of grid 1: its edge, its touching kind and its origin.
+pub fn settings(r: Reading) {
+    say(b"settings of grid 1: ");
+    match r {
+        Reading::Found(s) => {
+            number(b"edge ", s.edge as u64);
+            number(b" kind ", s.kind as u64);
+            say(b" origin");
+            coordinate(component::bias(s.x));
+            coordinate(component::bias(s.y));
+            coordinate(component::bias(s.z));
+        }
+        Reading::NotFound => say(b"not found"),
+        Reading::Overlong => say(b"overlong"),
+        Reading::Faulty(_, at) => number(b"faulty at ", at as u64),
+    }
+    say(b"\n");
 }
 
 pub fn event(entity: u64, c: CellId) {

@@ -4,7 +4,7 @@ use Prim.Native.String.{String}
 use Prim.Native.Char.{code}
 use mathlib.Core.Bool.{cond}
 use mathlib.Core.List.{List, [], _∷_, _++_}
-use lib.ListN.{length, take, drop}
+use lib.ListN.{length, drop}
 use lib.Dec.{ltb}
 
 -- The bytes of a text.
@@ -61,10 +61,6 @@ openLine = text "open batch\n"
 -- `end`
 unfoldable pub endLine : List ℕ
 endLine = text "end\n"
-
--- Bytes are put at a place of s and the rest is as it was; with the place behind them.
-unfoldable pub put : List ℕ → ℕ → List ℕ → ℕ × List ℕ
-put s at b = (at + length b, take at s ++ (b ++ drop (at + length b) s))
 
 -- A line is written at the start of s and the rest is as it was, with the line's length; s below 128 bytes is left as it is, with 0.
 unfoldable pub lineOf : List ℕ → List ℕ → ℕ × List ℕ

@@ -1,21 +1,13 @@
 -- The records of a script: a mark, `YR`, `YM` or `YU`, and numbers behind it, the lowest byte first.
-use Prim.Native.Nat.{ℕ, _+_, _*_}
+use Prim.Native.Nat.{ℕ, _+_}
 use mathlib.Core.Bool.{Bool, cond, not}
-use mathlib.Core.List.{List, [], _∷_}
-use lib.ListN.{length, getD, take, drop}
+use mathlib.Core.List.{List}
+use lib.ListN.{length, getD}
 use lib.Dec.{ltb, leb, eqb}
+use Rattle.little_endian.specs.Bytes.{numberAt}
 use Rattle.script.specs.declared.kinds.Moved.{Moved}
 use Rattle.script.specs.declared.kinds.Step.{Step}
 use Rattle.script.specs.declared.kinds.Step.the-variants.{Remove, Move, Run, Bad, More, Done}
-
--- The number that bytes spell, the lowest first.
-unfoldable pub little : List ℕ → ℕ
-little [] = 0
-little (b ∷ bs) = b + 256 * little bs
-
--- The number in the n bytes from a place on.
-abbrev pub numberAt : List ℕ → ℕ → ℕ → ℕ
-numberAt s at n = little (take n (drop at s))
 
 -- A coordinate of 32 bits in two's complement as a word of 64.
 abbrev pub widened : ℕ → ℕ

@@ -3,16 +3,8 @@ ghost use mathlib.Core.Path.{_≡_};
 ghost use mathlib.Core.List.{_∷_, [], _++_};
 ghost use Prim.Native.Nat.{_+_, _<_, _≤_};
 ghost use lib.ListN.{length};
-ghost use Rattle.script.specs.Lines.{text, decimal, signed, cellText, batchLine, enteredLine, leftLine, cellLine, wrongLine, openLine, endLine, put, lineOf};
-
-// A byte is put at a place.
-fn put_byte(out: &mut [u8], at: usize, b: u8) -> usize
-    requires { ⌜ at < length (now out) ⌝ }
-    ensures { λ r. ⌜ ((r, now (out .exit)) ≡ put (now (out .entry)) at (b ∷ [])) × (r ≡ at + 1) ⌝ }
-{
-    out[at] = b;
-    at + 1
-}
+ghost use Rattle.little_endian.specs.Bytes.{put};
+ghost use Rattle.script.specs.Lines.{text, decimal, signed, cellText, batchLine, enteredLine, leftLine, cellLine, wrongLine, openLine, endLine, lineOf};
 
 // Bytes are put at a place.
 fn put_text(out: &mut [u8], at: usize, bytes: &[u8]) -> usize
@@ -41,10 +33,10 @@ fn put_digits(out: &mut [u8], at: usize, n: u64) -> usize
     ensures { λ r. ⌜ ((r, now (out .exit)) ≡ put (now (out .entry)) at (decimal n)) × (r ≡ at + length (decimal n)) ⌝ }
 {
     if n < 10 {
-        return put_byte(out, at, digit(n));
+        return little_endian::put_byte(out, at, digit(n));
     }
     let next = put_digits(out, at, n / 10);
-    put_byte(out, next, digit(n % 10))
+    little_endian::put_byte(out, next, digit(n % 10))
 }
 
 // The digits of a number, at most 20, are put at a place.
@@ -63,7 +55,7 @@ fn put_signed(out: &mut [u8], at: usize, w: u64) -> usize
     if w < 9_223_372_036_854_775_808 {
         return put_number(out, at, w);
     }
-    let next = put_byte(out, at, b'-');
+    let next = little_endian::put_byte(out, at, b'-');
     put_number(out, next, 18_446_744_073_709_551_615 - w + 1)
 }
 
@@ -72,7 +64,7 @@ fn put_field(out: &mut [u8], at: usize, n: u64) -> usize
     requires { ⌜ at + 21 ≤ length (now out) ⌝ }
     ensures { λ r. ⌜ ((r, now (out .exit)) ≡ put (now (out .entry)) at (text " " ++ decimal n)) × (r ≤ at + 21) ⌝ }
 {
-    let next = put_byte(out, at, b' ');
+    let next = little_endian::put_byte(out, at, b' ');
     put_number(out, next, n)
 }
 
@@ -81,7 +73,7 @@ fn put_axis(out: &mut [u8], at: usize, w: u64) -> usize
     requires { ⌜ at + 22 ≤ length (now out) ⌝ }
     ensures { λ r. ⌜ ((r, now (out .exit)) ≡ put (now (out .entry)) at (text " " ++ signed w)) × (r ≤ at + 22) ⌝ }
 {
-    let next = put_byte(out, at, b' ');
+    let next = little_endian::put_byte(out, at, b' ');
     put_signed(out, next, w)
 }
 
@@ -90,7 +82,7 @@ fn put_cell(out: &mut [u8], mark: u8, grid: u64, x: u64, y: u64, z: u64) -> usiz
     requires { ⌜ 88 ≤ length (now out) ⌝ }
     ensures { λ r. ⌜ ((r, now (out .exit)) ≡ put (now (out .entry)) 0 (cellText (mark ∷ []) grid x y z)) × (r ≤ 88) ⌝ }
 {
-    let a = put_byte(out, 0, mark);
+    let a = little_endian::put_byte(out, 0, mark);
     let b = put_field(out, a, grid);
     let c = put_axis(out, b, x);
     let d = put_axis(out, c, y);
@@ -105,7 +97,7 @@ pub fn entered_line(out: &mut [u8], grid: u64, x: u64, y: u64, z: u64) -> usize
         return 0;
     }
     let at = put_cell(out, b'+', grid, x, y, z);
-    put_byte(out, at, b'\n')
+    little_endian::put_byte(out, at, b'\n')
 }
 
 // A cell became empty.
@@ -116,7 +108,7 @@ pub fn left_line(out: &mut [u8], grid: u64, x: u64, y: u64, z: u64) -> usize
         return 0;
     }
     let at = put_cell(out, b'-', grid, x, y, z);
-    put_byte(out, at, b'\n')
+    little_endian::put_byte(out, at, b'\n')
 }
 
 // An occupied cell and its id.
@@ -128,7 +120,7 @@ pub fn cell_line(out: &mut [u8], grid: u64, x: u64, y: u64, z: u64, id: u64) -> 
     }
     let a = put_cell(out, b'=', grid, x, y, z);
     let b = put_field(out, a, id);
-    put_byte(out, b, b'\n')
+    little_endian::put_byte(out, b, b'\n')
 }
 
 // The number of a batch and the code that answers it.
@@ -142,7 +134,7 @@ pub fn batch_line(out: &mut [u8], number: u64, code: u64) -> usize
     let b = put_number(out, a, number);
     let c = put_text(out, b, b" code ");
     let d = put_number(out, c, code);
-    put_byte(out, d, b'\n')
+    little_endian::put_byte(out, d, b'\n')
 }
 
 // Where a record is bad.
@@ -154,7 +146,7 @@ pub fn wrong_line(out: &mut [u8], at: u64) -> usize
     }
     let a = put_text(out, 0, b"bad record at ");
     let b = put_number(out, a, at);
-    put_byte(out, b, b'\n')
+    little_endian::put_byte(out, b, b'\n')
 }
 
 // Records are left that no batch ran.

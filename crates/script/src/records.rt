@@ -2,38 +2,9 @@
 use crate::kinds::Moved;
 use crate::kinds::Step;
 ghost use mathlib.Core.Path.{_≡_};
-ghost use Prim.Native.Nat.{_+_, _<_, _≤_};
+ghost use Prim.Native.Nat.{_<_, _≤_};
 ghost use lib.ListN.{length};
-ghost use Rattle.script.specs.Records.{numberAt, widened, lengthOf, movedOf, recordOf, cut, ended, stepOf};
-
-// A byte as a word.
-fn wide(b: u8) -> u64
-    ensures { λ r. ⌜ (r ≡ b) × (r < 256) ⌝ }
-{
-    b as u64
-}
-
-// The number in the four bytes from at on.
-fn word4(bytes: &[u8], at: usize) -> u64
-    requires { ⌜ at + 4 ≤ length (now bytes) ⌝ }
-    ensures { λ r. ⌜ (r ≡ numberAt (now (bytes .entry)) at 4) × (r < 4294967296) ⌝ }
-{
-    let a = wide(bytes[at]);
-    let b = wide(bytes[at + 1]);
-    let c = wide(bytes[at + 2]);
-    let d = wide(bytes[at + 3]);
-    a + 256 * (b + 256 * (c + 256 * d))
-}
-
-// The number in the eight bytes from at on.
-fn word8(bytes: &[u8], at: usize) -> u64
-    requires { ⌜ at + 8 ≤ length (now bytes) ⌝ }
-    ensures { λ r. ⌜ r ≡ numberAt (now (bytes .entry)) at 8 ⌝ }
-{
-    let low = word4(bytes, at);
-    let high = word4(bytes, at + 4);
-    low + 4_294_967_296 * high
-}
+ghost use Rattle.script.specs.Records.{widened, lengthOf, movedOf, recordOf, cut, ended, stepOf};
 
 // A coordinate of 32 bits as a word of 64.
 fn widen(n: u64) -> u64
@@ -68,11 +39,11 @@ fn moved_of(bytes: &[u8]) -> Moved
     requires { ⌜ 30 ≤ length (now bytes) ⌝ }
     ensures { λ r. ⌜ r ≡ movedOf (now (bytes .entry)) ⌝ }
 {
-    let entity = word8(bytes, 2);
-    let grid = word8(bytes, 10);
-    let x = widen(word4(bytes, 18));
-    let y = widen(word4(bytes, 22));
-    let z = widen(word4(bytes, 26));
+    let entity = little_endian::word8(bytes, 2);
+    let grid = little_endian::word8(bytes, 10);
+    let x = widen(little_endian::word4(bytes, 18));
+    let y = widen(little_endian::word4(bytes, 22));
+    let z = widen(little_endian::word4(bytes, 26));
     Moved {
         entity,
         grid,
@@ -88,7 +59,7 @@ fn record_of(bytes: &[u8], mark: u8) -> Step
     ensures { λ r. ⌜ r ≡ recordOf mark (now (bytes .entry)) ⌝ }
 {
     if mark == b'R' {
-        return Step::Remove(word8(bytes, 2));
+        return Step::Remove(little_endian::word8(bytes, 2));
     }
     if mark == b'M' {
         return Step::Move(moved_of(bytes));

@@ -4,9 +4,10 @@ use mathlib.Core.Path.{_≡_, refl}
 use mathlib.Core.Bool.{true, false}
 use mathlib.Core.List.{List, [], _∷_, _++_}
 use lib.ListN.{drop}
+use Rattle.little_endian.specs.Bytes.{little}
 use Rattle.script.specs.declared.kinds.Step.{Step}
 use Rattle.script.specs.declared.kinds.Step.the-variants.{Remove, Move, Run, Bad, More, Done}
-use Rattle.script.specs.Records.{little, widened, movedOf, recordOf, stepOf, stepLen}
+use Rattle.script.specs.Records.{widened, movedOf, recordOf, stepOf, stepLen}
 use Rattle.script.specs.Lines.{text, digits, decimal, signed, cellText, batchLine, enteredLine, leftLine, cellLine, wrongLine, openLine, endLine}
 
 -- The next k steps of bytes that end.

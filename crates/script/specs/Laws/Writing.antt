@@ -1,24 +1,16 @@
 -- A record that is written is read back.
-use Prim.Native.Nat.{ℕ, zero, suc, _+_, _/_, _^_, _≤_, _<_}
+use Prim.Native.Nat.{ℕ, _+_, _≤_, _<_}
 use mathlib.Core.Path.{_≡_, refl, ap, _∙_}
 use mathlib.Core.Bool.{Bool}
 use mathlib.Core.List.{List, _++_}
-use native.Mathlib.Nat.{pow-suc}
 use native.Mathlib.Omega.{arith}
 use borrow.Author.Tests.{eq-eqb, ne-eqb, le-leb}
 use lib.ListN.{length, getD}
+use Rattle.little_endian.specs.Bytes.{bytes}
+use Rattle.little_endian.specs.Laws.Numbers.{little-bytes}
 use Rattle.script.specs.declared.kinds.Step.the-variants.{Remove, Move}
-use Rattle.script.specs.Records.{little, widened, lengthOf, movedOf, recordOf, stepOf, stepLen}
-use Rattle.script.specs.Laws.Written.{Record, remove, move, run, bytes, written, said, Fits}
-
--- The bytes of a number spell it.
-pub little-bytes : (k n : ℕ) → n < 256 ^ k → little (bytes k n) ≡ n
-unfolding little bytes
-little-bytes zero n h = omega arith
-little-bytes (suc k) n h =
-    let p = pow-suc 256 k in
-    let e = little-bytes k (n / 256) (omega arith) in
-    omega arith
+use Rattle.script.specs.Records.{widened, lengthOf, movedOf, recordOf, stepOf, stepLen}
+use Rattle.script.specs.Laws.Written.{Record, remove, move, run, written, said, Fits}
 
 -- A good mark with enough bytes is a record.
 pub whole : (s : List ℕ) (last : Bool) → 2 ≤ length s → getD s 0 0 ≡ 89 → 0 < lengthOf (getD s 1 0) → lengthOf (getD s 1 0) ≤ length s → stepOf s last ≡ recordOf (getD s 1 0) s

@@ -1,6 +1,7 @@
 -- The records of a script as bytes.
-use Prim.Native.Nat.{ℕ, zero, suc, _/_, _%_, _<_}
-use mathlib.Core.List.{List, [], _∷_, _++_}
+use Prim.Native.Nat.{ℕ, _<_}
+use mathlib.Core.List.{List, _++_}
+use Rattle.little_endian.specs.Bytes.{bytes}
 use Rattle.script.specs.declared.kinds.Step.{Step}
 use Rattle.script.specs.declared.kinds.Step.the-variants.{Remove, Move, Run}
 use Rattle.script.specs.Lines.{text}
@@ -11,11 +12,6 @@ pub data Record : Type 0 where
   remove : ℕ → Record
   move : ℕ → ℕ → ℕ → ℕ → ℕ → Record
   run : Record
-
--- The k lowest bytes of a number, the lowest first.
-unfoldable pub bytes : ℕ → ℕ → List ℕ
-bytes zero n = []
-bytes (suc k) n = n % 256 ∷ bytes k (n / 256)
 
 -- The bytes of a record.
 unfoldable pub written : Record → List ℕ

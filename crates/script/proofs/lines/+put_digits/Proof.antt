@@ -3,18 +3,19 @@ use borrow.Author.Needs.{needs}
 use mathlib.Core.Path.{sym, ap, _∙_}
 use native.Mathlib.Omega.{arith}
 use Rattle.script.specs.Laws.Decimal.{decimal-small, decimal-more, length-small, length-more}
-use Rattle.script.proofs.Putting.{then}
+use Rattle.little_endian.specs.Laws.Putting.{then}
 use Prim.Native.Nat.{ℕ, _/_, _≤_, _<_}
 use mathlib.Core.List.{[], _∷_, _++_}
 use lib.ListN.{length}
-use Rattle.script.specs.Lines.{decimal, put}
+use Rattle.little_endian.specs.Bytes.{put}
+use Rattle.script.specs.Lines.{decimal}
 use borrow.Fn.Kinds.{In}
 use borrow.Fn.PlainCycle.{Measures, is, falls, and}
 use Rattle.script.proofs.lines.put_digits.Reads as put-digits
 use Rattle.script.proofs.lines.put_digits.Kinds as put-digits-kinds
 use Rattle.script.proofs.lines.+put_digits.Lts-put_digits as put-digits-lts
 use Rattle.script.proofs.lines.digit.Reads as digit-reads
-use Rattle.script.proofs.lines.put_byte.Reads as put-byte-reads
+use Rattle.little_endian.proofs.put_byte.Reads as put-byte-reads
 use Rattle.script.proofs.lines.+put_digits.{statement}
 use Rattle.script.proofs.lines.+put_digits.Tie.{close}
 

@@ -1,6 +1,6 @@
 -- The number is put behind the space.
 use native.Mathlib.Omega.{arith}
-use Rattle.script.proofs.Putting.{then}
+use Rattle.little_endian.specs.Laws.Putting.{then}
 use borrow.Author.Needs.{needs}
 use Rattle.script.proofs.lines.put_axis.Statement.{statement}
 use Rattle.script.proofs.lines.put_axis.Tie as tie

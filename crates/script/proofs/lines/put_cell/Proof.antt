@@ -1,7 +1,7 @@
 -- Each number is put behind what is there.
 use Prim.Native.Nat.{zero-le}
 use native.Mathlib.Omega.{arith}
-use Rattle.script.proofs.Putting.{then}
+use Rattle.little_endian.specs.Laws.Putting.{then}
 use Rattle.script.specs.Lines.{cellText}
 use borrow.Author.Needs.{needs}
 use Rattle.script.proofs.lines.put_cell.Statement.{statement}

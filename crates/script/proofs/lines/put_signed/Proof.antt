@@ -1,9 +1,9 @@
 -- A negative number is put behind its sign.
 use mathlib.Core.Path.{sym, ap, _∙_}
 use native.Mathlib.Omega.{arith}
-use Rattle.script.proofs.Putting.{then}
+use Rattle.little_endian.specs.Laws.Putting.{then}
 use Rattle.script.specs.Laws.Decimal.{signed-low, signed-high}
-use Rattle.script.specs.Lines.{put}
+use Rattle.little_endian.specs.Bytes.{put}
 use borrow.Author.Needs.{needs}
 use Rattle.script.proofs.lines.put_signed.Statement.{statement}
 use Rattle.script.proofs.lines.put_signed.Tie as tie

@@ -6,7 +6,7 @@ use native.Mathlib.Numerals.{add-one}
 use native.Mathlib.Omega.{arith}
 use lib.ListN.{length, getD, set, length-set}
 use lib.Seq.{paste, paste-zero, paste-suc}
-use Rattle.script.proofs.Putting.{all}
+use Rattle.little_endian.specs.Laws.Putting.{all}
 use borrow.Author.Needs.{needs}
 use Rattle.script.proofs.lines.put_text.Statement.{statement}
 use Rattle.script.proofs.lines.put_text.Tie as tie

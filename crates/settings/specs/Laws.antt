@@ -1,0 +1,10 @@
+pub mod Keeping
+pub mod Marks
+pub mod Parsing
+pub mod Reading
+pub mod Records
+pub mod Settings
+pub mod Signed
+pub mod Versions
+pub mod Writing
+pub mod Table

@@ -1,0 +1,13 @@
+pub mod Settings
+pub mod Records
+pub mod Parsing
+pub mod Reading
+pub mod Writing
+pub mod Keeping
+pub mod Told
+pub mod Whole
+pub mod First
+pub mod Table
+pub mod Laws
+pub mod Theorems
+pub mod Cases

@@ -1,0 +1,3 @@
+pub mod Frames
+pub mod Laws
+pub mod Theorems
