@@ -8,7 +8,7 @@
  * call's CAPMARROW_TOLD has it. After any other number told[0] is 0, and told[1] and told[2] tell where the fault is:
  *
  *    1  the state, the batch or `told` is too short              0, 0
- *    2  the state is not consistent                              the first broken point, 1 to 8 (capmarrow_consistent); 0
+ *    2  the state is not consistent                              the first broken point, 1 to 9 (capmarrow_consistent); 0
  *    3  more than 1,024 events                                   0, 0
  *    4  a coordinate is out of range                             the position of the first such move, counted from 0 in the list of
  *                                                                moves, or of the cell (0, a second cell 1); its first such axis
@@ -19,6 +19,10 @@
  *   10  a report's values are not ones that may be               0 its coordinates, 1 its error; the axis
  *   11  a frame is not one                                       0 its edge, 1 its origin; the axis
  *   12  no path joins the cells                                  0, 0
+ *   13  what touching means is not 6, 18 or 26                   0, 0
+ *
+ * A state chooses when it is made what touching means, its kind, and keeps it: 6 (cells 1 apart on one axis), 18 (on one axis or two) or
+ * 26 (on one, two or three). Neighbour counts, groups, nearby, flood and path go by the kind; cube does not.
  *
  * An axis is x 0, y 1, z 2. A `told` that is shorter than the call's CAPMARROW_TOLD gives 1, and then it too is as found; so are words of
  * `told` that are not named. Coordinates in words are in two's complement. */
@@ -42,6 +46,7 @@ extern "C" {
 
 /* How many words `told` has at least, and what stands there after 0. */
 #define CAPMARROW_TOLD_DONE 3   /* 0, 0, 0: fresh, update, consistent */
+#define CAPMARROW_TOLD_KIND 3   /* 1, and 6, 18 or 26 */
 #define CAPMARROW_TOLD_WHERE 5  /* found, grid, x, y, z */
 #define CAPMARROW_TOLD_ID 3     /* found, id */
 #define CAPMARROW_TOLD_COUNT 3  /* found, how many */
@@ -49,14 +54,16 @@ extern "C" {
 #define CAPMARROW_TOLD_LIST 3   /* found, how many */
 #define CAPMARROW_TOLD_FLOOD 3  /* found, how many cells, 1 if that was all */
 
-/* Makes a fresh state whose first id is given; refuses by 1 and 5. */
-uint64_t capmarrow_fresh(uint64_t *state, size_t state_len, uint64_t first_id, uint64_t *told, size_t told_len);
+/* Makes a fresh state whose first id and kind are given; refuses by 1, 13 and 5, in that order. */
+uint64_t capmarrow_fresh(uint64_t *state, size_t state_len, uint64_t first_id, uint64_t kind, uint64_t *told, size_t told_len);
 
 /* Updates the state by a batch: the removals first, one word each (the entity), then the moves, five words each (entity, grid, x, y,
  * z); refuses by 1 to 7. */
 uint64_t capmarrow_update(uint64_t *state, size_t state_len, const uint64_t *batch, size_t batch_len, uint64_t removals, uint64_t moves, uint64_t *told, size_t told_len);
 
-/* Tests whether a state is consistent; refuses by 1 and 2. The points, of which 2 tells the first that is broken:
+/* Tests whether a state is consistent; refuses by 1 and 2. The points, of which 2 tells the first that is broken, in the order in which
+ * they are tried:
+ *   9  what touching means is 6, 18 or 26
  *   1  entities distinct, they and the occupied cells within number
  *   2  the cells with an id, each held once, are exactly those an entity stands in
  *   3  the mask has exactly the bits of touching occupied cells
@@ -66,6 +73,9 @@ uint64_t capmarrow_update(uint64_t *state, size_t state_len, const uint64_t *bat
  *   7  coordinates in range
  *   8  net lists strictly ascending, at most 1,024 cells each, the first occupied, the second not */
 uint64_t capmarrow_consistent(const uint64_t *state, size_t state_len, uint64_t *told, size_t told_len);
+
+/* Tells what touching means in a state; refuses by 1 and 2. */
+uint64_t capmarrow_kind_of(const uint64_t *state, size_t state_len, uint64_t *told, size_t told_len);
 
 /* Tells where an entity stands; refuses by 1 and 2. */
 uint64_t capmarrow_where_is(const uint64_t *state, size_t state_len, uint64_t entity, uint64_t *told, size_t told_len);

@@ -8,9 +8,9 @@
 use crate::ffi;
 use crate::Cell;
 
-/// A fresh state in the first words of a slice. Told: 0, 0, 0.
-pub fn fresh(state: &mut [u64], first_id: u64, told: &mut [u64]) -> u64 {
-    unsafe { ffi::capmarrow_fresh(state.as_mut_ptr(), state.len(), first_id, told.as_mut_ptr(), told.len()) }
+/// A fresh state of a kind, 6, 18 or 26, in the first words of a slice. Told: 0, 0, 0.
+pub fn fresh(state: &mut [u64], first_id: u64, kind: u64, told: &mut [u64]) -> u64 {
+    unsafe { ffi::capmarrow_fresh(state.as_mut_ptr(), state.len(), first_id, kind, told.as_mut_ptr(), told.len()) }
 }
 
 /// A batch: removals, one word each, then moves, five words each (entity, grid, x, y, z). Told: 0, 0, 0.
@@ -21,6 +21,11 @@ pub fn update(state: &mut [u64], batch: &[u64], removals: u64, moves: u64, told:
 /// Whether a state is consistent. Told: 0, 0, 0.
 pub fn consistent(state: &[u64], told: &mut [u64]) -> u64 {
     unsafe { ffi::capmarrow_consistent(state.as_ptr(), state.len(), told.as_mut_ptr(), told.len()) }
+}
+
+/// Told: 1, the kind.
+pub fn kind_of(state: &[u64], told: &mut [u64]) -> u64 {
+    unsafe { ffi::capmarrow_kind_of(state.as_ptr(), state.len(), told.as_mut_ptr(), told.len()) }
 }
 
 /// Told: found, grid, x, y, z.

@@ -1,11 +1,12 @@
 //! The functions of the static library as C sees them (compare/capmarrow.h): each slice is a pointer and its length in words.
 
 extern "C" {
-    pub fn capmarrow_fresh(state: *mut u64, state_len: usize, first_id: u64, told: *mut u64, told_len: usize) -> u64;
+    pub fn capmarrow_fresh(state: *mut u64, state_len: usize, first_id: u64, kind: u64, told: *mut u64, told_len: usize) -> u64;
     pub fn capmarrow_update(
         state: *mut u64, state_len: usize, batch: *const u64, batch_len: usize, removals: u64, moves: u64, told: *mut u64, told_len: usize,
     ) -> u64;
     pub fn capmarrow_consistent(state: *const u64, state_len: usize, told: *mut u64, told_len: usize) -> u64;
+    pub fn capmarrow_kind_of(state: *const u64, state_len: usize, told: *mut u64, told_len: usize) -> u64;
     pub fn capmarrow_where_is(state: *const u64, state_len: usize, entity: u64, told: *mut u64, told_len: usize) -> u64;
     pub fn capmarrow_id_of(state: *const u64, state_len: usize, grid: u64, x: i32, y: i32, z: i32, told: *mut u64, told_len: usize) -> u64;
     pub fn capmarrow_neighbour_count(state: *const u64, state_len: usize, grid: u64, x: i32, y: i32, z: i32, told: *mut u64, told_len: usize) -> u64;

@@ -14,7 +14,7 @@ mod yard;
 
 pub use refusal::{Answer, Axis, Given, Place, Refusal};
 pub use reports::{event_of, BadReport, Event, Frame, Report};
-pub use types::{Batch, Cell, Cube, Flood, Group, Lookup};
+pub use types::{Batch, Cell, Cube, Flood, Group, Kind, Lookup};
 pub use yard::Yard;
 
 /// How many words a state has.

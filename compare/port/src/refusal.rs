@@ -55,7 +55,7 @@ impl fmt::Display for Place {
 pub enum Refusal {
     /// 1: the state's words, or a batch's, are too few.
     TooShort,
-    /// 2: the state is not consistent; the first point of the scope's list that it breaks, 1 to 8.
+    /// 2: the state is not consistent; the first point of the scope's list that it breaks, 1 to 9; 9 is tried before the others.
     Broken(u64),
     /// 3: the batch has too many events.
     TooManyEvents,
@@ -71,6 +71,8 @@ pub enum Refusal {
     AnswerTooLong(u64),
     /// 12: no path leads from the one cell to the other.
     NoPath,
+    /// 13: what touching means is none of the three kinds.
+    UnknownKind,
     /// A number, or a place of a fault, that the scope does not give for the call.
     Unknown(u64),
 }
@@ -113,6 +115,7 @@ impl Refusal {
             Refusal::TooManyCells => 7,
             Refusal::AnswerTooLong(_) => 8,
             Refusal::NoPath => 12,
+            Refusal::UnknownKind => 13,
             Refusal::Unknown(number) => number,
         }
     }
@@ -131,6 +134,7 @@ impl Refusal {
             7 => Refusal::TooManyCells,
             8 => Refusal::AnswerTooLong(word(1)),
             12 => Refusal::NoPath,
+            13 => Refusal::UnknownKind,
             _ => Refusal::Unknown(number),
         })
     }
@@ -147,6 +151,7 @@ fn point(point: u64) -> &'static str {
         6 => "every id below the next id",
         7 => "coordinates in range",
         8 => "net lists strictly ascending, at most 1,024 cells each, the first occupied, the second not",
+        9 => "what touching means is 6, 18 or 26",
         _ => "a point that the scope does not have",
     }
 }
@@ -163,6 +168,7 @@ impl fmt::Display for Refusal {
             Refusal::TooManyCells => f.write_str("an event would leave more than 1,024 occupied cells"),
             Refusal::AnswerTooLong(needed) => write!(f, "the answer needs {needed} words, more than its slice has"),
             Refusal::NoPath => f.write_str("no path of touching occupied cells leads from the one cell to the other"),
+            Refusal::UnknownKind => f.write_str("what touching means is not 6, 18 or 26"),
             Refusal::Unknown(number) => write!(f, "refused by number {number} in a way that this wrapper does not know"),
         }
     }

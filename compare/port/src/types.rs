@@ -39,6 +39,32 @@ impl fmt::Debug for Cell {
     }
 }
 
+/// What touching means in a yard, by how many cells touch one: those 1 apart on one axis, on one or two, or on one, two or three.
+#[derive(Debug, Clone, Copy, PartialEq, Eq)]
+pub enum Kind {
+    Six,
+    Eighteen,
+    TwentySix,
+}
+
+impl Kind {
+    pub const ALL: [Self; 3] = [Kind::Six, Kind::Eighteen, Kind::TwentySix];
+
+    /// The number that stands for it in the calls on words and in a state.
+    pub fn number(self) -> u64 {
+        match self {
+            Kind::Six => 6,
+            Kind::Eighteen => 18,
+            Kind::TwentySix => 26,
+        }
+    }
+
+    /// The kind of a number, if it is one of the three.
+    pub fn of(number: u64) -> Option<Self> {
+        Kind::ALL.into_iter().find(|kind| kind.number() == number)
+    }
+}
+
 /// A batch: all removals run first, then the moves, each in list order.
 #[derive(Debug, Clone, Default, PartialEq, Eq)]
 pub struct Batch {

@@ -1,7 +1,7 @@
 //! A yard that keeps its words.
 
 use crate::refusal::{Answer, Given, Refusal};
-use crate::types::{Batch, Cell, Cube, Flood, Group, Lookup};
+use crate::types::{Batch, Cell, Cube, Flood, Group, Kind, Lookup};
 use crate::{calls, MOST_CELLS, MOST_ENTITIES, STATE_LEN};
 
 /// A yard: the words of its state, as docs/STATE.md lays them out.
@@ -11,10 +11,10 @@ pub struct Yard {
 }
 
 impl Yard {
-    /// A yard with no entity, whose first id is given.
-    pub fn fresh(first_id: u64) -> Answer<Self> {
+    /// A yard with no entity, whose first id and kind are given; the kind stays.
+    pub fn fresh(first_id: u64, kind: Kind) -> Answer<Self> {
         let mut words = vec![0; STATE_LEN];
-        told(Given::Nothing, |told: &mut [u64; 3]| calls::fresh(&mut words, first_id, told))?;
+        told(Given::Nothing, |told: &mut [u64; 3]| calls::fresh(&mut words, first_id, kind.number(), told))?;
         Ok(Yard { words })
     }
 
@@ -38,6 +38,13 @@ impl Yard {
     /// Whether the words are a yard: refused are words that are too few, and words that break a point of consistency.
     pub fn consistent(&self) -> Answer<()> {
         told(Given::Nothing, |told: &mut [u64; 3]| calls::consistent(&self.words, told)).map(|_| ())
+    }
+
+    /// What touching means in the yard.
+    pub fn kind(&self) -> Answer<Kind> {
+        let told = told(Given::Nothing, |told: &mut [u64; 3]| calls::kind_of(&self.words, told))?;
+        // The library tells one of the three (`kind-three`, crates/ask), so this refuses nothing.
+        Kind::of(told[1]).ok_or(Refusal::UnknownKind)
     }
 
     /// Where an entity stands.

@@ -1,10 +1,11 @@
 //! What is said of each refusal, as a call gives it.
 
-use capmarrow::{calls, Answer, Batch, Cell, Given, Refusal, Yard, FAR, MOST_CELLS, MOST_ENTITIES, STATE_LEN};
+use capmarrow::{calls, Answer, Batch, Cell, Given, Kind, Refusal, Yard, FAR, MOST_CELLS, MOST_ENTITIES, STATE_LEN};
 
-/// Words of a state by docs/STATE.md: the header's number of newly emptied cells and its next id, and where each table starts.
+/// Words of a state by docs/STATE.md: the header's number of newly emptied cells, its next id and its kind, and where each table starts.
 const EMPTIED_COUNT: usize = 3;
 const NEXT_ID: usize = 6;
+const KIND: usize = 7;
 const ENTITIES: usize = 16;
 const CELLS: usize = 20_496;
 const EMPTIED: usize = 29_712;
@@ -23,7 +24,7 @@ fn along(x: i32) -> Cell {
 
 /// Two joined cells with id 0 and one apart with id 1.
 fn yard() -> Yard {
-    let mut yard = Yard::fresh(0).unwrap();
+    let mut yard = Yard::fresh(0, Kind::TwentySix).unwrap();
     yard.update(&moves([along(0), along(1), along(5)])).unwrap();
     yard
 }
@@ -51,7 +52,8 @@ fn too_short_is_said() {
 #[test]
 fn the_first_broken_point_is_said() {
     let emptied = |x: u64| [(EMPTIED_COUNT, 1), (EMPTIED, 1), (EMPTIED + 1, ZERO), (EMPTIED + 2, ZERO), (EMPTIED + 3, ZERO + x)];
-    let points: [(&[(usize, u64)], &str); 8] = [
+    let points: [(&[(usize, u64)], &str); 9] = [
+        (&[(KIND, 0)], "9: what touching means is 6, 18 or 26"),
         (&[(ENTITIES + 5, 0)], "1: entities distinct, they and the occupied cells within number"),
         (&[(IDS + 13, ZERO + 6)], "2: the cells with an id, each held once, are exactly those an entity stands in"),
         (&[(CELLS + 4, 0)], "3: the mask has exactly the bits of touching occupied cells"),
@@ -69,6 +71,7 @@ fn the_first_broken_point_is_said() {
         assert_eq!(said(broken.update(&Batch::default())), sentence);
     }
     assert_eq!(said(changed(&[(NEXT_ID, 1), (GROUPS + 2, 3)]).group(0)), Refusal::Broken(5).to_string());
+    assert_eq!(said(changed(&[(KIND, 27), (ENTITIES + 5, 0)]).group(0)), Refusal::Broken(9).to_string());
     assert_eq!(said(changed(&[(GROUPS + 3, 1)]).consistent()), Refusal::Broken(5).to_string());
     assert_eq!(yard().consistent(), Ok(()));
 }
@@ -91,14 +94,14 @@ fn the_first_bad_coordinate_is_said() {
 fn limits_are_said() {
     let removals = Batch { removals: vec![7; 1025], moves: vec![] };
     assert_eq!(said(yard().update(&removals)), "the batch has more than 1,024 events");
-    assert_eq!(said(Yard::fresh(u64::MAX).map(|_| ())), "fewer than 2,048 ids are left");
-    let mut crowd = Yard::fresh(0).unwrap();
+    assert_eq!(said(Yard::fresh(u64::MAX, Kind::TwentySix).map(|_| ())), "fewer than 2,048 ids are left");
+    let mut crowd = Yard::fresh(0, Kind::TwentySix).unwrap();
     for k in 0..MOST_ENTITIES as u64 / 1024 {
         crowd.update(&Batch { removals: vec![], moves: (0..1024).map(|i| (1024 * k + i, along(0))).collect() }).unwrap();
     }
     let one_more = Batch { removals: vec![], moves: vec![(MOST_ENTITIES as u64, along(0))] };
     assert_eq!(said(crowd.update(&one_more)), "an event would leave more than 4,096 entities");
-    let mut full = Yard::fresh(0).unwrap();
+    let mut full = Yard::fresh(0, Kind::TwentySix).unwrap();
     full.update(&moves((0..MOST_CELLS as i32).map(along))).unwrap();
     let one_more = Batch { removals: vec![], moves: vec![(MOST_CELLS as u64, along(-1))] };
     assert_eq!(said(full.update(&one_more)), "an event would leave more than 1,024 occupied cells");
@@ -120,15 +123,15 @@ fn what_no_call_gives_is_unknown() {
     for (told, given) in [([0, 1, 0], Given::Cells(&cells)), ([0, 0, 3], Given::Cells(&cells)), ([0; 3], Given::Nothing)] {
         assert_eq!(Refusal::of(4, &told, given), Err(Refusal::Unknown(4)));
     }
-    assert_eq!(said(Refusal::of(2, &[0, 9, 0], Given::Nothing)), "the state is broken at point 9: a point that the scope does not have");
-    assert_eq!([1, 2, 3, 5, 6, 7, 8, 12, 99].map(|n| Refusal::of(n, &[0; 3], Given::Nothing).unwrap_err().number()), [1, 2, 3, 5, 6, 7, 8, 12, 99]);
+    assert_eq!(said(Refusal::of(2, &[0, 10, 0], Given::Nothing)), "the state is broken at point 10: a point that the scope does not have");
+    assert_eq!([1, 2, 3, 5, 6, 7, 8, 12, 13, 99].map(|n| Refusal::of(n, &[0; 3], Given::Nothing).unwrap_err().number()), [1, 2, 3, 5, 6, 7, 8, 12, 13, 99]);
 }
 
 #[test]
 fn places_are_told_in_words() {
     let mut told = [7; 4];
     let mut words = vec![0; STATE_LEN];
-    assert_eq!((calls::fresh(&mut words, 0, &mut told), told), (0, [0, 0, 0, 7]));
+    assert_eq!((calls::fresh(&mut words, 0, 26, &mut told), told), (0, [0, 0, 0, 7]));
     let batch = moves([along(0), Cell { y: FAR + 1, ..along(0) }]).words();
     assert_eq!((calls::update(&mut words, &batch, 0, 2, &mut told), told), (4, [0, 1, 1, 7]));
     assert_eq!((calls::update(&mut words, &batch, 0, 1, &mut told), told), (0, [0, 0, 0, 7]));
@@ -137,8 +140,8 @@ fn places_are_told_in_words() {
     assert_eq!((calls::consistent(&words, &mut told), told), (2, [0, 6, 0, 7]));
     assert_eq!((calls::ids(&words, &mut [], &mut told), told), (2, [0, 6, 0, 7]));
     let before = words.clone();
-    assert_eq!((calls::fresh(&mut words, 0, &mut told[..2]), told), (1, [0, 6, 0, 7]));
+    assert_eq!((calls::fresh(&mut words, 0, 26, &mut told[..2]), told), (1, [0, 6, 0, 7]));
     assert_eq!((calls::update(&mut words, &batch, 0, 1, &mut told[..2]), told), (1, [0, 6, 0, 7]));
     assert!(words == before);
-    assert_eq!((calls::fresh(&mut words, u64::MAX, &mut told), told), (5, [0, 0, 0, 7]));
+    assert_eq!((calls::fresh(&mut words, u64::MAX, 26, &mut told), told), (5, [0, 0, 0, 7]));
 }

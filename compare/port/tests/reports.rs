@@ -1,6 +1,6 @@
 //! From reports in metres to groups, as crates/reports_to_groups does it.
 
-use capmarrow::{event_of, BadReport, Batch, Cell, Event, Frame, Lookup, Report, Yard};
+use capmarrow::{event_of, BadReport, Batch, Cell, Event, Frame, Kind, Lookup, Report, Yard};
 
 const FRAME: Frame = Frame { x: 100.0, y: -50.0, z: 0.0, edge: 2.0 };
 
@@ -28,7 +28,7 @@ fn ids(yard: &Yard) -> [Option<u64>; 4] {
 
 #[test]
 fn reports_become_groups() {
-    let mut yard = Yard::fresh(0).unwrap();
+    let mut yard = Yard::fresh(0, Kind::TwentySix).unwrap();
     let first = batch(&[
         (1, Report::Fix(100.5, -49.5, 0.25)),
         (2, Report::Reckoned(99.5, -48.0, 0.0, 0.75)),

@@ -1,6 +1,6 @@
 //! The time of the port's calls by themselves, on yards of several shapes and sizes.
 
-use capmarrow::{calls, Batch, Cell, STATE_LEN};
+use capmarrow::{calls, Batch, Cell, Kind, STATE_LEN};
 use std::time::Instant;
 
 /// An entity that stands alone in a cell far from the others.
@@ -30,7 +30,7 @@ fn update(state: &mut [u64], moves: Vec<(u64, Cell)>) {
 /// A state of so many cells, the walker's among them, with so many entities in each of the others.
 fn filled(shape: Shape, cells: u64, each: u64) -> Vec<u64> {
     let mut state = vec![0; STATE_LEN];
-    calls::fresh(&mut state, 0, &mut [0; 3]);
+    calls::fresh(&mut state, 0, Kind::TwentySix.number(), &mut [0; 3]);
     for k in 0..each {
         update(&mut state, (0..cells - 1).map(|i| (k * cells + i, shape(i))).collect());
     }

@@ -7,13 +7,16 @@ use crate::questions::{ask, Asking};
 use crate::rng::Rng;
 use crate::rust_side::RustYard;
 use crate::state_words::StateWords;
-use capmarrow::{calls, Cell, Group, STATE_LEN};
+use capmarrow::{calls, Cell, Group, Kind, STATE_LEN};
 use std::collections::{BTreeMap, BTreeSet};
 
 pub type Verdict = Result<(), String>;
 
 /// Words behind a state, which no call may touch.
 const BEHIND: [u64; 3] = [7, u64::MAX, 0];
+
+/// What touching means in the Rust, and so on both sides.
+pub const KIND: Kind = Kind::TwentySix;
 
 /// Both sides of a comparison, and whether ids can still be compared.
 pub struct Sides {
@@ -35,7 +38,7 @@ impl Sides {
     pub fn new(first_id: u64, walk: u64) -> Self {
         let mut words = vec![u64::MAX; STATE_LEN];
         words.extend(BEHIND);
-        assert_eq!(calls::fresh(&mut words, first_id, &mut [0; 3]), 0);
+        assert_eq!(calls::fresh(&mut words, first_id, KIND.number(), &mut [0; 3]), 0);
         Sides { words, rust: RustYard::new(walk), first_id, ids_comparable: true }
     }
 
@@ -62,6 +65,7 @@ impl Sides {
         self.count(&done, counts);
         self.occupancy(counts)?;
         self.groups(counts)?;
+        same("what touching means", self.state().kind(), KIND.number())?;
         same("the words behind the state", &self.words[STATE_LEN..], &BEHIND)?;
         ask(self, asking, rng, counts)
     }

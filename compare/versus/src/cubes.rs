@@ -1,7 +1,7 @@
 //! The time of a cube on a full yard, on both sides, beside a test of consistency.
 
 use crate::rust_side::RustYard;
-use capmarrow::{calls, Batch, Cell, MOST_CELLS, STATE_LEN};
+use capmarrow::{calls, Batch, Cell, Kind, MOST_CELLS, STATE_LEN};
 use std::time::Instant;
 
 /// A full yard of 32 rows of 32 cells, in one plane or in 32.
@@ -29,7 +29,7 @@ pub fn cubes() {
     for (name, upright) in [("one plane", false), ("32 planes", true)] {
         let batch = Batch { removals: vec![], moves: full(upright) };
         let mut state = vec![0; STATE_LEN];
-        calls::fresh(&mut state, 0, &mut [0; 3]);
+        calls::fresh(&mut state, 0, Kind::TwentySix.number(), &mut [0; 3]);
         assert_eq!(calls::update(&mut state, &batch.words(), 0, batch.moves.len() as u64, &mut [0; 3]), 0);
         let mut rust = RustYard::new(1);
         rust.run(&batch);

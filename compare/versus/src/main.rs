@@ -3,7 +3,7 @@
 //! versus run SEED BATCHES          compares at least as many accepted batches
 //! versus kind NAME SEED BATCHES    the same with scripts of one kind
 //! versus record SEED               writes the Rust's answers for some scripts, as rows of crate `cases`
-//! versus speed                     the time of a batch and of a cube on both sides, and of the port's calls by themselves
+//! versus speed                     the time of a batch and of a cube on both sides, and of the port's calls by themselves, also by kind of touching
 
 mod alone;
 mod compare;
@@ -40,6 +40,7 @@ fn main() -> ExitCode {
         },
         ["speed"] => {
             speed::speed();
+            speed::kinds();
             alone::alone();
             cubes::cubes();
             ExitCode::SUCCESS

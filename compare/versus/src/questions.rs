@@ -1,6 +1,6 @@
 //! Questions that the port answers, each held against the Rust.
 
-use crate::compare::{same, Sides, Verdict};
+use crate::compare::{same, Sides, Verdict, KIND};
 use crate::counts::Counts;
 use crate::paths;
 use crate::rng::Rng;
@@ -49,6 +49,8 @@ pub fn ask(sides: &Sides, asking: Asking, rng: &mut Rng, counts: &mut Counts) ->
     };
     answered(yard.consistent())?;
     counts.asked("consistent");
+    same("kinds as asked", answered(yard.kind())?, KIND)?;
+    counts.asked("kind");
     lists(sides, &yard, counts)?;
     for k in 0..times(entities.len(), 3).min(entities.len()) {
         let (entity, at) = entities[if asking == Asking::All { k } else { rng.below(entities.len() as u64) as usize }];

@@ -5,6 +5,7 @@
 //! (`nearby`), or the word `sorted` is added (`flood`). Floods that a depth or a budget cuts are not written. Where the ids of both sides
 //! can no longer be told from each other, it is written which cells share one (`share`), and how many there are (`ids` with no room).
 
+use crate::compare::KIND;
 use crate::offer::Offer;
 use crate::rng::Rng;
 use crate::rust_side::RustYard;
@@ -81,7 +82,7 @@ pub fn record(seed: u64) -> String {
 }
 
 fn script(plan: &Plan, rng: &mut Rng) -> String {
-    let mut text = format!("fresh {} = code 0\n", plan.first_id);
+    let mut text = format!("fresh {} kind {} = code 0\n", plan.first_id, KIND.number());
     let mut yard = RustYard::new(rng.next());
     let mut ids = true;
     for k in 0..plan.batches.min(24) {

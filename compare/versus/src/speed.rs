@@ -1,7 +1,8 @@
-//! The time of a batch on both sides, on the same scripts: the port's update against the Rust's events and partition update.
+//! The time of a batch on both sides, on the same scripts: the port's update against the Rust's events and partition update; and the
+//! port's by what touching means.
 
 use crate::rust_side::RustYard;
-use capmarrow::{calls, Batch, Cell, MOST_CELLS, STATE_LEN};
+use capmarrow::{calls, Batch, Cell, Kind, MOST_CELLS, STATE_LEN};
 use std::time::{Duration, Instant};
 
 /// A script whose first batches are not timed.
@@ -52,35 +53,56 @@ fn races() -> Vec<Race> {
     ]
 }
 
-/// The time of each side for the timed batches, once.
-fn once(race: &Race) -> (Duration, Duration) {
-    let mut words = vec![0; STATE_LEN];
-    calls::fresh(&mut words, 0, &mut [0; 3]);
-    let mut rust = RustYard::new(1);
-    let update = |words: &mut Vec<u64>, batch: &Batch| {
-        let number = calls::update(words, &batch.words(), batch.removals.len() as u64, batch.moves.len() as u64, &mut [0; 3]);
-        assert_eq!(number, 0, "{} is refused", race.name);
-    };
-    for batch in &race.first {
-        update(&mut words, batch);
-        rust.run(batch);
-    }
+/// The time of the timed batches, once, by what runs a batch.
+fn once(race: &Race, mut run: impl FnMut(&Batch)) -> Duration {
+    race.first.iter().for_each(&mut run);
     let started = Instant::now();
-    race.timed.iter().for_each(|batch| update(&mut words, batch));
-    let port = started.elapsed();
-    let started = Instant::now();
-    race.timed.iter().for_each(|batch| rust.run(batch));
-    (port, started.elapsed())
+    race.timed.iter().for_each(&mut run);
+    started.elapsed()
 }
 
-/// Prints the microseconds of a batch on both sides, the least of five runs, and the ratio.
+/// The time of the port, once.
+fn port(race: &Race, kind: Kind) -> Duration {
+    let mut words = vec![0; STATE_LEN];
+    calls::fresh(&mut words, 0, kind.number(), &mut [0; 3]);
+    once(race, |batch| {
+        let number = calls::update(&mut words, &batch.words(), batch.removals.len() as u64, batch.moves.len() as u64, &mut [0; 3]);
+        assert_eq!(number, 0, "{} is refused", race.name);
+    })
+}
+
+/// The time of the Rust, once.
+fn rust(race: &Race) -> Duration {
+    let mut yard = RustYard::new(1);
+    once(race, |batch| yard.run(batch))
+}
+
+/// The microseconds of a batch, of each of some sides the least of five runs in turn.
+fn least<const N: usize>(race: &Race, sides: [&dyn Fn(&Race) -> Duration; N]) -> [f64; N] {
+    let mut least = [f64::INFINITY; N];
+    for _ in 0..5 {
+        for (least, side) in least.iter_mut().zip(sides) {
+            *least = least.min(side(race).as_secs_f64() * 1e6 / race.timed.len() as f64);
+        }
+    }
+    least
+}
+
+/// Prints the microseconds of a batch on both sides, and the ratio.
 pub fn speed() {
     println!("microseconds for a batch, the least of five runs: the port, the Rust, and how many times the Rust's the port's is");
     for race in races() {
-        let runs: Vec<(Duration, Duration)> = (0..5).map(|_| once(&race)).collect();
-        let batch = |time: Duration| time.as_secs_f64() * 1e6 / race.timed.len() as f64;
-        let port = runs.iter().map(|r| batch(r.0)).fold(f64::INFINITY, f64::min);
-        let rust = runs.iter().map(|r| batch(r.1)).fold(f64::INFINITY, f64::min);
-        println!("{:<50} {port:>10.1} {rust:>10.1} {:>8.2}", race.name, port / rust);
+        let [ours, theirs] = least(&race, [&|race| port(race, Kind::TwentySix), &rust]);
+        println!("{:<50} {ours:>10.1} {theirs:>10.1} {:>8.2}", race.name, ours / theirs);
+    }
+}
+
+/// Prints the microseconds of a batch of the port by what touching means, and the ratio of 6 to 26.
+pub fn kinds() {
+    println!("microseconds for a batch of the port, the least of five runs: touching by 26, by 18, by 6, and how many times 26's 6's is");
+    for race in races() {
+        let by = |kind| move |race: &Race| port(race, kind);
+        let [by_26, by_18, by_6] = least(&race, [&by(Kind::TwentySix), &by(Kind::Eighteen), &by(Kind::Six)]);
+        println!("{:<50} {by_26:>10.1} {by_18:>10.1} {by_6:>10.1} {:>8.2}", race.name, by_6 / by_26);
     }
 }

@@ -41,6 +41,10 @@ impl<'a> StateWords<'a> {
         self.0[6]
     }
 
+    pub fn kind(&self) -> u64 {
+        self.0[7]
+    }
+
     pub fn entities(&self) -> BTreeMap<u64, Cell> {
         self.rows(ENTITIES, 5, 0).map(|row| (row[0], cell(&row[1..]))).collect()
     }

@@ -10,12 +10,10 @@ use Rattle.component.specs.Coord.{coordInRange, badAxis}
 use Rattle.refusal.specs.declared.Refusal.{Refusal}
 use Rattle.refusal.specs.Forms.{none, outOfRange}
 use Rattle.model.specs.Lists.{has}
-use Rattle.model.specs.Cells.{same, touch26}
+use Rattle.model.specs.Cells.{same}
 use Rattle.model.specs.Occupancy.{occupied}
-use Rattle.model.specs.Flood.{flood}
-use Rattle.model.specs.Questions.{whereIs, neighbourCount, groupBy, entitiesIn, idList, nearby, cube}
+use Rattle.model.specs.Questions.{whereIs, neighbourCount, groupBy, entitiesIn, idList, nearby, cube, pathBetween}
 use Rattle.model.specs.Questions as question
-use Rattle.model.specs.Shortest.{shownPath}
 use Rattle.layout.specs.State.{decode}
 use Rattle.told.specs.Told.{Told, done, refused, unless, seen, unlessRefused}
 use Rattle.lookups.specs.declared.Shown.{Shown}
@@ -33,6 +31,10 @@ cellRefusal w c = unless (stateRefusal w) (λ r. r) (cond (coordInRange (c .coor
 -- The same, and then 4 for a second cell that is out of range, at position 1.
 unfoldable pub cellsRefusal : List ℕ → CellId → CellId → Refusal
 cellsRefusal w a b = unless (cellRefusal w a) (λ r. r) (cond (coordInRange (b .coord)) none (outOfRange 1 (badAxis (b .coord))))
+
+-- What touching means in the state: 6, 18 or 26.
+unfoldable pub kindOf : List ℕ → Told ℕ
+kindOf w = unless (stateRefusal w) refused (done (decode w .kind))
 
 -- Where an entity stands.
 unfoldable pub whereOf : List ℕ → ℕ → Told (Option CellId)
@@ -68,7 +70,7 @@ entitiesOf w c answer = unlessRefused (cellRefusal w c) answer (listedNumbers (e
 
 -- A cell, then the occupied cells that it touches, in cell order.
 unfoldable pub nearbyOf : List ℕ → CellId → List ℕ → Told (Bool × ℕ) × List ℕ
-nearbyOf w c answer = unlessRefused (cellRefusal w c) answer (listedCells (nearby touch26 (decode w) (stored c)) answer)
+nearbyOf w c answer = unlessRefused (cellRefusal w c) answer (listedCells (nearby (decode w) (stored c)) answer)
 
 -- The centre first, then its neighbours of a radius in order, occupied ones only.
 unfoldable pub cubeOf : List ℕ → CellId → ℕ → List ℕ → Told (Bool × ℕ) × List ℕ
@@ -78,10 +80,10 @@ cubeOf w c r answer = unlessRefused (cellRefusal w c) answer (listedCells (cube 
 unfoldable pub floodOf : List ℕ → CellId → Depth → ℕ → List ℕ → Told (Bool × Visited) × List ℕ
 floodOf w c depth budget answer =
     unlessRefused (cellRefusal w c) answer
-    (flooded (has same (occupied (decode w .occupancy)) (stored c)) (flood touch26 (decode w .occupancy) (stored c) (depthOf depth) budget) answer)
+    (flooded (has same (occupied (decode w .occupancy)) (stored c)) (question.floodOf (decode w) (stored c) (depthOf depth) budget) answer)
 
 -- The path from one cell to another.
 unfoldable pub pathOf : List ℕ → CellId → CellId → List ℕ → Told (Bool × ℕ) × List ℕ
 pathOf w a b answer =
     unlessRefused (cellsRefusal w a b) answer
-    (pathFrom (shownPath touch26 (occupied (decode w .occupancy)) (stored a) (stored b)) answer)
+    (pathFrom (pathBetween (decode w) (stored a) (stored b)) answer)

@@ -1,4 +1,5 @@
 pub mod Exactly
 pub mod Kept
+pub mod Kinds
 pub mod One
 pub mod Places

@@ -8,15 +8,16 @@ pub use lists::Listing;
 pub use lookups::CountOf;
 pub use lookups::GroupOf;
 pub use lookups::IdOf;
+pub use lookups::KindOf;
 pub use lookups::Shown;
 pub use lookups::Where;
 pub use lookups::corners;
 use refusal::Refusal;
 ghost use mathlib.Core.Path.{_≡_};
-ghost use Rattle.lookups.specs.Told.{whereTold, idTold, countTold, groupTold};
+ghost use Rattle.lookups.specs.Told.{kindTold, whereTold, idTold, countTold, groupTold};
 ghost use Rattle.lists.specs.Told.{listingTold};
 ghost use Rattle.floods.specs.Told.{floodingTold};
-ghost use Rattle.ask.specs.Answers.{cellRefusal, cellsRefusal, whereOf, idOf, countOf, groupOf, idsOf, occupiedOf, emptiedOf, entitiesOf, nearbyOf, cubeOf, floodOf, pathOf};
+ghost use Rattle.ask.specs.Answers.{cellRefusal, cellsRefusal, kindOf, whereOf, idOf, countOf, groupOf, idsOf, occupiedOf, emptiedOf, entitiesOf, nearbyOf, cubeOf, floodOf, pathOf};
 
 // 1 and 2 by the state, and 4 for a cell that is out of range.
 fn cell_refused(state: &[u64], cell: CellId) -> Refusal
@@ -44,6 +45,18 @@ fn cells_refused(state: &[u64], from: CellId, to: CellId) -> Refusal
         return refusal::none();
     }
     refusal::out_of_range(1, component::bad_axis(to.coord))
+}
+
+// What touching means in the state: 6, 18 or 26.
+pub fn kind_of(state: &[u64]) -> KindOf
+    ensures { λ r. ⌜ kindTold r ≡ kindOf (now (state .entry)) ⌝ }
+{
+    let no = consistent::consistent(state);
+    if no.number != 0 {
+        return KindOf::Refused(no);
+    }
+    let kind = state[layout::KIND];
+    KindOf::Is(kind)
 }
 
 // Where an entity stands.

@@ -6,7 +6,7 @@ use mathlib.Core.List.{List}
 use lib.Dec.{ltb}
 use lib.ListN.{length}
 use Rattle.model.specs.Lists.{run}
-use Rattle.model.specs.Cells.{Cell, below, touch26}
+use Rattle.model.specs.Cells.{Cell, below, touchAt}
 use Rattle.model.specs.Occupancy.{Occupancy, Event, play}
 use Rattle.model.specs.Update.{mostEntities, mostCells, brokenBy}
 use Rattle.model.specs.Laws.Sorted.{Asc}
@@ -30,22 +30,22 @@ pub record Roomy (ents cells crowd occ emp : List ℕ) : Type 0 where
   pub emp-room : netWidth * suc mostCells ≤ length emp
 
 -- The words hold an occupancy that is within number, whose net lists are the difference to the cells that were occupied, and have room for an event.
-pub record Ready (ents cells crowd occ emp : List ℕ) (n : Counts) (was : List Cell) (o : Occupancy) : Type 0 where
-  pub held : Held ents cells crowd occ emp n o
-  pub within : Within touch26 o
+pub record Ready (kind : ℕ) (ents cells crowd occ emp : List ℕ) (n : Counts) (was : List Cell) (o : Occupancy) : Type 0 where
+  pub held : Held kind ents cells crowd occ emp n o
+  pub within : Within (touchAt kind) o
   pub was-asc : Asc below was
   pub was-few : length was ≤ mostCells
   pub net : Net was o
   pub room : Roomy ents cells crowd occ emp
 
 -- On the way through the events es from o: what is left of them decides for all.
-pub record Going (ents cells crowd occ emp : List ℕ) (n : Counts) (was : List Cell) (o : Occupancy) (es left : List Event) : Type 0 where
+pub record Going (kind : ℕ) (ents cells crowd occ emp : List ℕ) (n : Counts) (was : List Cell) (o : Occupancy) (es left : List Event) : Type 0 where
   pub at : Occupancy
-  pub ready : Ready ents cells crowd occ emp n was at
-  pub broken : brokenBy touch26 o es ≡ brokenBy touch26 at left
-  pub ends : run (play touch26) o es ≡ run (play touch26) at left
+  pub ready : Ready kind ents cells crowd occ emp n was at
+  pub broken : brokenBy (touchAt kind) o es ≡ brokenBy (touchAt kind) at left
+  pub ends : run (play (touchAt kind)) o es ≡ run (play (touchAt kind)) at left
 
 -- What playing the events es from o comes to: the number of the first that breaks a limit, and where none does, the occupancy after them.
-pub record Outcome (ents cells crowd occ emp : List ℕ) (r : Played) (was : List Cell) (o : Occupancy) (es : List Event) : Type 0 where
-  pub number : r .number ≡ brokenBy touch26 o es
-  pub ready : r .number ≡ 0 → Ready ents cells crowd occ emp (r .counts) was (run (play touch26) o es)
+pub record Outcome (kind : ℕ) (ents cells crowd occ emp : List ℕ) (r : Played) (was : List Cell) (o : Occupancy) (es : List Event) : Type 0 where
+  pub number : r .number ≡ brokenBy (touchAt kind) o es
+  pub ready : r .number ≡ 0 → Ready kind ents cells crowd occ emp (r .counts) was (run (play (touchAt kind)) o es)

@@ -12,7 +12,7 @@ ghost use mathlib.Core.List.{List};
 ghost use Prim.Native.Nat.{_+_, _*_, _≤_};
 ghost use lib.ListN.{length, drop};
 ghost use Rattle.model.specs.Lists.{all};
-ghost use Rattle.model.specs.Cells.{Cell, touch26};
+ghost use Rattle.model.specs.Cells.{Cell, touchAt};
 ghost use Rattle.model.specs.Occupancy.{Occupancy, play, events};
 ghost use Rattle.layout.specs.Widths.{moveWidth};
 ghost use Rattle.batch.specs.Words.{movesIn, batchOf};
@@ -57,18 +57,19 @@ fn play_event(
     emp: &mut [u64],
     batch: &[u64],
     n: Counts,
+    kind: u64,
     removals: usize,
     k: usize,
 ) -> Counts
-    requires { ⌜ ((was : List Cell) × (o : Occupancy) × Ready (now ents) (now cells) (now crowd) (now occ) (now emp) n was o × EventFits (now batch) removals k) ⌝ }
-    ensures { λ r. ⌜ ((o : Occupancy) → Held (now (ents .entry)) (now (cells .entry)) (now (crowd .entry)) (now (occ .entry)) (now (emp .entry)) n o → Held (now (ents .exit)) (now (cells .exit)) (now (crowd .exit)) (now (occ .exit)) (now (emp .exit)) r (play touch26 o (eventAt (now (batch .entry)) removals k))) ⌝ }
+    requires { ⌜ ((was : List Cell) × (o : Occupancy) × Ready kind (now ents) (now cells) (now crowd) (now occ) (now emp) n was o × EventFits (now batch) removals k) ⌝ }
+    ensures { λ r. ⌜ ((o : Occupancy) → Held kind (now (ents .entry)) (now (cells .entry)) (now (crowd .entry)) (now (occ .entry)) (now (emp .entry)) n o → Held kind (now (ents .exit)) (now (cells .exit)) (now (crowd .exit)) (now (occ .exit)) (now (emp .exit)) r (play (touchAt kind) o (eventAt (now (batch .entry)) removals k))) ⌝ }
 {
     if k < removals {
-        return play_removal(ents, cells, crowd, occ, emp, n, batch[k]);
+        return play_removal(ents, cells, crowd, occ, emp, n, kind, batch[k]);
     }
     let at = removals + MOVE_WIDTH * (k - removals);
     let c = move_cell(batch, at);
-    play_move(ents, cells, crowd, occ, emp, n, batch[at], c)
+    play_move(ents, cells, crowd, occ, emp, n, kind, batch[at], c)
 }
 
 // The events of a batch, up to the first that breaks a limit; each is judged on what it leaves.
@@ -80,17 +81,18 @@ pub fn play_batch(
     emp: &mut [u64],
     batch: &[u64],
     n: Counts,
+    kind: u64,
     removals: usize,
     moves: usize,
 ) -> Played
-    requires { ⌜ ((was : List Cell) × (o : Occupancy) × Ready (now ents) (now cells) (now crowd) (now occ) (now emp) n was o × (removals + moveWidth * moves ≤ length (now batch)) × (all inRange (movesIn moves (drop removals (now batch))) ≡ true)) ⌝ }
-    ensures { λ r. ⌜ ((was : List Cell) (o : Occupancy) → Ready (now (ents .entry)) (now (cells .entry)) (now (crowd .entry)) (now (occ .entry)) (now (emp .entry)) n was o → Outcome (now (ents .exit)) (now (cells .exit)) (now (crowd .exit)) (now (occ .exit)) (now (emp .exit)) r was o (events (batchOf (now (batch .entry)) removals moves))) ⌝ }
+    requires { ⌜ ((was : List Cell) × (o : Occupancy) × Ready kind (now ents) (now cells) (now crowd) (now occ) (now emp) n was o × (removals + moveWidth * moves ≤ length (now batch)) × (all inRange (movesIn moves (drop removals (now batch))) ≡ true)) ⌝ }
+    ensures { λ r. ⌜ ((was : List Cell) (o : Occupancy) → Ready kind (now (ents .entry)) (now (cells .entry)) (now (crowd .entry)) (now (occ .entry)) (now (emp .entry)) n was o → Outcome kind (now (ents .exit)) (now (cells .exit)) (now (crowd .exit)) (now (occ .exit)) (now (emp .exit)) r was o (events (batchOf (now (batch .entry)) removals moves))) ⌝ }
 {
     let end = removals + moves;
     let mut c = n;
     let mut i = 0;
     while i < end {
-        let d = play_event(ents, cells, crowd, occ, emp, batch, c, removals, i);
+        let d = play_event(ents, cells, crowd, occ, emp, batch, c, kind, removals, i);
         let k = judge(d);
         if k != 0 {
             return Played {

@@ -10,19 +10,24 @@ ghost use Prim.Native.Nat.{ℕ};
 ghost use Rattle.consistent.specs.Answer.{stateRefusal};
 ghost use Rattle.fresh.specs.Answer.{freshOf};
 ghost use Rattle.yard.specs.Update.{updateOf};
-ghost use Rattle.ask.specs.Answers.{whereOf, idOf, countOf, groupOf, idsOf, occupiedOf, emptiedOf, entitiesOf, nearbyOf, cubeOf, floodOf, pathOf};
+ghost use Rattle.ask.specs.Answers.{kindOf, whereOf, idOf, countOf, groupOf, idsOf, occupiedOf, emptiedOf, entitiesOf, nearbyOf, cubeOf, floodOf, pathOf};
 ghost use Rattle.telling.specs.Given.{cellOf, depthGiven};
-ghost use Rattle.telling.specs.Words.{numbered, refusalTold, whereWords, numberWords, groupWords, listingWords, floodingWords, tells, tellsFilled};
+ghost use Rattle.telling.specs.Words.{numbered, refusalTold, kindWords, whereWords, numberWords, groupWords, listingWords, floodingWords, tells, tellsFilled};
 
-// A fresh state, whose first id is given. Told: 0, 0, 0.
+// A fresh state, whose first id and kind of touching, 6, 18 or 26, are given. Told: 0, 0, 0.
 #[no_mangle]
-pub extern "C" fn capmarrow_fresh(state: &mut [u64], first_id: u64, told: &mut [u64]) -> u64
-    ensures { λ r. ⌜ _≡_ {A = (ℕ × List ℕ) × List ℕ} ((r, now (told .exit)), now (state .exit)) (tellsFilled 3 refusalTold (freshOf (now (state .entry)) «first_id») (now (told .entry)) (now (state .entry))) ⌝ }
+pub extern "C" fn capmarrow_fresh(
+    state: &mut [u64],
+    first_id: u64,
+    kind: u64,
+    told: &mut [u64],
+) -> u64
+    ensures { λ r. ⌜ _≡_ {A = (ℕ × List ℕ) × List ℕ} ((r, now (told .exit)), now (state .exit)) (tellsFilled 3 refusalTold (freshOf (now (state .entry)) «first_id» kind) (now (told .entry)) (now (state .entry))) ⌝ }
 {
     if told.len() < 3 {
         return 1;
     }
-    let r = fresh::fresh(state, first_id);
+    let r = fresh::fresh(state, first_id, kind);
     telling::tell_refusal(told, r)
 }
 
@@ -53,6 +58,17 @@ pub extern "C" fn capmarrow_consistent(state: &[u64], told: &mut [u64]) -> u64
         return 1;
     }
     telling::tell_refusal(told, consistent::consistent(state))
+}
+
+// What touching means in a state. Told: 1, and 6, 18 or 26.
+#[no_mangle]
+pub extern "C" fn capmarrow_kind_of(state: &[u64], told: &mut [u64]) -> u64
+    ensures { λ r. ⌜ _≡_ {A = ℕ × List ℕ} (r, now (told .exit)) (tells 3 (numbered kindWords (kindOf (now (state .entry)))) (now (told .entry))) ⌝ }
+{
+    if told.len() < 3 {
+        return 1;
+    }
+    telling::tell_kind(told, ask::kind_of(state))
 }
 
 // Where an entity stands. Told: found, grid, x, y, z.

@@ -3,21 +3,22 @@ use ask::Depth;
 use ask::Flooding;
 use ask::IdOf;
 use ask::Listing;
-use case_answers::answers::ANSWER_LEN;
-use case_answers::answers::MARK;
-use case_answers::answers::MOST_ROOM;
-use case_answers::answers::put_count;
-use case_answers::answers::put_flood;
-use case_answers::answers::put_group;
-use case_answers::answers::put_id;
-use case_answers::answers::put_list;
-use case_answers::answers::put_where;
-use case_answers::sorting::sort;
+use case_answers::put_count;
+use case_answers::put_group;
+use case_answers::put_id;
+use case_answers::put_kind;
+use case_answers::put_where;
+use case_lists::items::ANSWER_LEN;
+use case_lists::items::MARK;
+use case_lists::items::MOST_ROOM;
+use case_lists::items::put_flood;
+use case_lists::items::put_list;
+use case_lists::sorting::sort;
 use case_rows::keys;
 use case_rows::reading::ROW_LEN;
 use case_rows::reading::WORDS;
 use case_rows::writing::TEXT_LEN;
-use case_rows::writing::put_refusal;
+use case_rows::writing::put_refused;
 use case_rows::writing::put_text;
 use case_tables::drafting::cell_at;
 use component::Cell;
@@ -150,8 +151,7 @@ fn put_consistent(out: &mut [u8; TEXT_LEN], state: &[u64]) -> usize {
     if no.number == 0 {
         return put_text(out, 0, b"yes");
     }
-    let u = put_text(out, 0, b"refused");
-    put_refusal(out, u, no)
+    put_refused(out, no)
 }
 
 // A question is asked of a state's words, with room for so many words of an answer; how many bytes its text has.
@@ -164,6 +164,7 @@ pub fn put_asked(
     let key = row[WORDS];
     match key {
         keys::CONSISTENT => put_consistent(out, state),
+        keys::KIND => put_kind(out, ask::kind_of(state)),
         keys::WHERE => put_where(out, ask::where_is(state, row[0])),
         keys::ID => put_id(out, ask::id_of(state, cell(row))),
         keys::COUNT => put_count(out, ask::neighbour_count(state, cell(row))),

@@ -112,11 +112,11 @@ fn put_code(
 const NOT_SO_MANY: u64 = 999;
 
 // A fresh state is asked for in the first words.
-fn fresh_in(state: &mut [u64], n: usize, first_id: u64) -> Refusal {
+fn fresh_in(state: &mut [u64], n: usize, first_id: u64, kind: u64) -> Refusal {
     if n > state.len() {
         return refusal::plain(NOT_SO_MANY);
     }
-    fresh::fresh(&mut state[0..n], first_id)
+    fresh::fresh(&mut state[0..n], first_id, kind)
 }
 
 // An update of the first words of a yard by the first words of a batch is asked for.
@@ -144,7 +144,7 @@ pub fn put_fresh(
     let mut before = [0u64; YARD_LEN];
     spoil(state, 0);
     copy(state, &mut before);
-    let answer = fresh_in(state, place(desk[LENT]), row[0]);
+    let answer = fresh_in(state, place(desk[LENT]), row[0], row[1]);
     put_code(out, answer, &before, state)
 }
 

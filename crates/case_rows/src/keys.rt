@@ -18,6 +18,8 @@ pub const ROWS: u64 = 0x726f7773;
 
 pub const NEXT: u64 = 0x6e657874;
 
+pub const KIND: u64 = 0x6b696e64;
+
 pub const SPARE: u64 = 0x7370617265;
 
 pub const BEHIND: u64 = 0x626568696e64;

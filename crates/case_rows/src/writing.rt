@@ -59,3 +59,15 @@ pub fn put_refusal(out: &mut [u8; TEXT_LEN], used: usize, r: Refusal) -> usize {
     }
     u
 }
+
+// Words and a number are put at the start of a buffer.
+pub fn put_said(out: &mut [u8; TEXT_LEN], said: &[u8], n: u64) -> usize {
+    let u = put_text(out, 0, said);
+    put_number(out, u, n)
+}
+
+// A refusal is put at the start of a buffer.
+pub fn put_refused(out: &mut [u8; TEXT_LEN], r: Refusal) -> usize {
+    let u = put_text(out, 0, b"refused");
+    put_refusal(out, u, r)
+}

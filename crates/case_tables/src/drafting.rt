@@ -20,6 +20,7 @@ use layout::GROUP_ENTITIES;
 use layout::GROUP_GRID;
 use layout::GROUP_HIGH;
 use layout::GROUP_LOW;
+use layout::KIND;
 use layout::NEXT_ID;
 use layout::STATE_LEN;
 
@@ -100,17 +101,18 @@ fn record(draft: &mut [u64; YARD_LEN], row: &[u64; ROW_LEN]) {
     put_corner(draft, at, GROUP_HIGH, row, 7);
 }
 
-// No rows, and the next id; behind the state stand words of no meaning.
-fn blank(draft: &mut [u64; YARD_LEN], next: u64) {
+// No rows, the next id and the kind of touching; behind the state stand words of no meaning.
+fn blank(draft: &mut [u64; YARD_LEN], next: u64, kind: u64) {
     spoil(draft, STATE_LEN);
     put(draft, NEXT_ID, next);
+    put(draft, KIND, kind);
 }
 
 // A row that drafts a yard; whether it was one.
 pub fn draft_row(draft: &mut [u64; YARD_LEN], row: &[u64; ROW_LEN]) -> bool {
     let key = row[WORDS];
     match key {
-        keys::BLANK => blank(draft, row[0]),
+        keys::BLANK => blank(draft, row[0], row[1]),
         keys::ENTITY => entity(draft, row),
         keys::CELL => cell(draft, row),
         keys::ENTERED => net(draft, row, keys::OCCUPIED),

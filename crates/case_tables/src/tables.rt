@@ -30,6 +30,7 @@ use layout::GROUPS;
 use layout::ID_COUNT;
 use layout::ID_WIDTH;
 use layout::IDS;
+use layout::KIND;
 use layout::MOST_ENTITIES;
 use layout::NET_WIDTH;
 use layout::NEXT_ID;
@@ -185,6 +186,7 @@ pub fn change(yard: &mut [u64; YARD_LEN], row: &[u64; ROW_LEN]) -> bool {
     match key {
         keys::FILL => fill(yard, row[0]),
         keys::NEXT => put(yard, NEXT_ID, row[0]),
+        keys::KIND => put(yard, KIND, row[0]),
         keys::SPARE => put(yard, on(SPARE, row[0]), row[1]),
         keys::BEHIND => put(yard, on(STATE_LEN, row[0]), row[1]),
         keys::SET => set(yard, row),

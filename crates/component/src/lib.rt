@@ -337,7 +337,7 @@ pub fn has_room(c: Cell, r: u8) -> bool
 }
 
 // The k-th place once the place m is left out.
-fn step(k: u64, m: u64) -> u64
+pub fn step(k: u64, m: u64) -> u64
     requires { ⌜ k < 1000000000 ⌝ }
     ensures { λ j. ⌜ j ≡ stepN m k ⌝ }
 {

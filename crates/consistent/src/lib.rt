@@ -1,9 +1,10 @@
-// Whether a lent state is consistent, and if not by which point: the eight points of consistency, in their order.
+// Whether a lent state is consistent, and if not by which point: the points of consistency in their order, 9 first.
 use layout::CELL_COUNT;
 use layout::EMPTIED_COUNT;
 use layout::ENTITY_COUNT;
 use layout::GROUP_COUNT;
 use layout::ID_COUNT;
+use layout::KIND;
 use layout::NEXT_ID;
 use layout::OCCUPIED_COUNT;
 use layout::cell_words;
@@ -17,8 +18,16 @@ use layout::spare_words;
 use refusal::Refusal;
 ghost use mathlib.Core.Path.{_≡_};
 ghost use mathlib.Core.Bool.{true};
-ghost use Rattle.layout.specs.Points.{longEnough, point1, point2, point3, point4, point5, point6, point7, point8, firstBroken};
+ghost use Rattle.layout.specs.Points.{longEnough, point1, point2, point3, point4, point5, point6, point7, point8, point9, firstBroken};
 ghost use Rattle.consistent.specs.Answer.{stateRefusal};
+
+// 9. Whether the stored kind of touching is 6, 18 or 26.
+fn kind_known(state: &[u64]) -> bool
+    requires { ⌜ longEnough (now state) ≡ true ⌝ }
+    ensures { λ r. ⌜ r ≡ point9 (now (state .entry)) ⌝ }
+{
+    kinds::is_kind(state[KIND])
+}
 
 // 1. Whether the entities are distinct, they and the occupied cells within number.
 fn entities_within(state: &[u64]) -> bool
@@ -53,7 +62,7 @@ fn masks_exact(state: &[u64]) -> bool
 {
     let cells = cell_words(state);
     let m = count_at(state, CELL_COUNT);
-    masks_check::masks_right(cells, m)
+    masks_check::masks_right(state[KIND], cells, m)
 }
 
 // 4. Whether ids are shared exactly by joined cells.
@@ -119,11 +128,14 @@ fn nets_in_order(state: &[u64]) -> bool
     points_check::nets_right(cells, m, occ, k, emp, l)
 }
 
-// The first broken point, 1 to 8; 0 where none is.
+// The first broken point: 9 before 1 to 8; 0 where none is.
 fn first_broken(state: &[u64]) -> u64
     requires { ⌜ longEnough (now state) ≡ true ⌝ }
     ensures { λ r. ⌜ r ≡ firstBroken (now (state .entry)) ⌝ }
 {
+    if !kind_known(state) {
+        return 9;
+    }
     if !entities_within(state) {
         return 1;
     }

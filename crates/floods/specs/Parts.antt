@@ -15,7 +15,8 @@ NoneMarked n marks = (j : ℕ) → j < n → getD marks j 0 ≡ 0
 
 -- What a flood asks: a row that is there, rows of which none is marked, and space.
 pub record FloodAsked (words : List ℕ) (n seed : ℕ) (marks queue : List ℕ) : Type 0 where
-  pub cells : Cells words n (cellsIn n words)
+  pub kind : ℕ
+  pub cells : Cells kind words n (cellsIn n words)
   pub seeded : seed < n
   pub few : n ≤ mostCells
   pub clear : NoneMarked n marks

@@ -7,10 +7,10 @@ use refusal::Refusal;
 use table::Place;
 ghost use mathlib.Core.Path.{_≡_};
 ghost use mathlib.Core.Bool.{true};
-ghost use Prim.Native.Nat.{_≤_, _<_, min};
+ghost use Prim.Native.Nat.{ℕ, _≤_, _<_, min};
 ghost use lib.ListN.{length};
 ghost use Rattle.model.specs.Lists.{has, keys};
-ghost use Rattle.model.specs.Cells.{same, touch26};
+ghost use Rattle.model.specs.Cells.{same, touchAt};
 ghost use Rattle.model.specs.Flood.{wholeFlood, floodCells, flood as floodBy};
 ghost use Rattle.model.specs.Update.{mostCells};
 ghost use Rattle.layout.specs.Rows.{cellsIn};
@@ -53,7 +53,7 @@ fn least(whole: usize, budget: u64) -> usize
 
 // The rows that the depth leaves out are marked; the marks are scratch, and only which rows are open is promised.
 fn leave_out(cells: &[u64], n: usize, seed: usize, depth: Depth, marks: &mut [u64])
-    requires { ⌜ Cells (now cells) n (cellsIn n (now cells)) × (seed < n) × (n ≤ length (now marks)) × NoneMarked n (now marks) ⌝ }
+    requires { ⌜ ((kind : ℕ) × Cells kind (now cells) n (cellsIn n (now cells))) × (seed < n) × (n ≤ length (now marks)) × NoneMarked n (now marks) ⌝ }
     ensures { λ _. ⌜ openCells (now (cells .entry)) n (now (marks .exit)) ≡ floodCells (depthOf depth) (rowCell (now (cells .entry)) seed) (keys (cellsIn n (now (cells .entry)))) ⌝ }
 {
     if let Depth::AtMost(d) = depth {
@@ -72,7 +72,7 @@ fn queue_flood(
     queue: &mut [u64],
 ) -> usize
     requires { ⌜ FloodAsked (now cells) n seed (now marks) (now queue) ⌝ }
-    ensures { λ r. ⌜ Visits (now (cells .entry)) n (now (queue .exit)) r (wholeFlood touch26 (floodCells (depthOf depth) (rowCell (now (cells .entry)) seed) (keys (cellsIn n (now (cells .entry))))) (rowCell (now (cells .entry)) seed)) ⌝ }
+    ensures { λ r. ⌜ ((kind : ℕ) → Cells kind (now (cells .entry)) n (cellsIn n (now (cells .entry))) → Visits (now (cells .entry)) n (now (queue .exit)) r (wholeFlood (touchAt kind) (floodCells (depthOf depth) (rowCell (now (cells .entry)) seed) (keys (cellsIn n (now (cells .entry))))) (rowCell (now (cells .entry)) seed))) ⌝ }
 {
     leave_out(cells, n, seed, depth, marks);
     if marks[seed] != 0 {
@@ -93,7 +93,7 @@ fn flood_over(
     answer: &mut [u64],
 ) -> Flooding
     requires { ⌜ FloodAsked (now cells) n seed (now marks) (now queue) ⌝ }
-    ensures { λ r. ⌜ (floodingTold r, now (answer .exit)) ≡ flooded true (floodBy touch26 (having (cellsIn n (now (cells .entry))) .occupancy) (rowCell (now (cells .entry)) seed) (depthOf depth) budget) (now (answer .entry)) ⌝ }
+    ensures { λ r. ⌜ ((kind : ℕ) → Cells kind (now (cells .entry)) n (cellsIn n (now (cells .entry))) → (floodingTold r, now (answer .exit)) ≡ flooded true (floodBy (touchAt kind) (having (cellsIn n (now (cells .entry))) .occupancy) (rowCell (now (cells .entry)) seed) (depthOf depth) budget) (now (answer .entry))) ⌝ }
 {
     let whole = queue_flood(cells, n, seed, depth, marks, queue);
     let number = least(whole, budget);
@@ -114,8 +114,8 @@ fn flood_from(
     budget: u64,
     answer: &mut [u64],
 ) -> Flooding
-    requires { ⌜ Cells (now cells) n (cellsIn n (now cells)) × (seed < n) × (n ≤ mostCells) ⌝ }
-    ensures { λ r. ⌜ (floodingTold r, now (answer .exit)) ≡ flooded true (floodBy touch26 (having (cellsIn n (now (cells .entry))) .occupancy) (rowCell (now (cells .entry)) seed) (depthOf depth) budget) (now (answer .entry)) ⌝ }
+    requires { ⌜ ((kind : ℕ) × Cells kind (now cells) n (cellsIn n (now cells))) × (seed < n) × (n ≤ mostCells) ⌝ }
+    ensures { λ r. ⌜ ((kind : ℕ) → Cells kind (now (cells .entry)) n (cellsIn n (now (cells .entry))) → (floodingTold r, now (answer .exit)) ≡ flooded true (floodBy (touchAt kind) (having (cellsIn n (now (cells .entry))) .occupancy) (rowCell (now (cells .entry)) seed) (depthOf depth) budget) (now (answer .entry))) ⌝ }
 {
     let mut marks = [0u64; MOST_CELLS];
     let mut queue = [0u64; MOST_CELLS];
@@ -140,8 +140,8 @@ pub fn give_flood(
     budget: u64,
     answer: &mut [u64],
 ) -> Flooding
-    requires { ⌜ Cells (now cells) n (cellsIn n (now cells)) × (n ≤ mostCells) ⌝ }
-    ensures { λ r. ⌜ (floodingTold r, now (answer .exit)) ≡ flooded (has same (keys (cellsIn n (now (cells .entry)))) c) (floodBy touch26 (having (cellsIn n (now (cells .entry))) .occupancy) c (depthOf depth) budget) (now (answer .entry)) ⌝ }
+    requires { ⌜ ((kind : ℕ) × Cells kind (now cells) n (cellsIn n (now cells))) × (n ≤ mostCells) ⌝ }
+    ensures { λ r. ⌜ ((kind : ℕ) → Cells kind (now (cells .entry)) n (cellsIn n (now (cells .entry))) → (floodingTold r, now (answer .exit)) ≡ flooded (has same (keys (cellsIn n (now (cells .entry)))) c) (floodBy (touchAt kind) (having (cellsIn n (now (cells .entry))) .occupancy) c (depthOf depth) budget) (now (answer .entry))) ⌝ }
 {
     let p = table::find4(cells, CELL_WIDTH, n, c);
     match p {

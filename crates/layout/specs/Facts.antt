@@ -5,13 +5,12 @@ use mathlib.Core.Bool.{true}
 use mathlib.Core.List.{List, [], List·Memᴰ as Mem}
 use lib.Dec.{leb}
 use lib.ListN.{length, drop, replicate}
-use Rattle.model.specs.Cells.{touch26}
 use Rattle.model.specs.Update.{State, mostEntities, mostCells}
 use Rattle.model.specs.Consistent.{consistent}
 use Rattle.table.specs.Rows.{areZero}
 use Rattle.layout.specs.Widths.{entityWidth, cellWidth, netWidth, idWidth, groupWidth}
 use Rattle.layout.specs.Rows.{entitiesImage, cellsImage, netImage, idsImage, groupsImage}
-use Rattle.layout.specs.State.{entitiesLen, cellsLen, netLen, idsLen, groupsLen, decode, spareWords, entityWords, cellWords, occupiedWords, emptiedWords, idWords, groupWords, entityCount, cellCount, occupiedCount, emptiedCount, idCount, groupCount, nextId}
+use Rattle.layout.specs.State.{entitiesLen, cellsLen, netLen, idsLen, groupsLen, decode, spareWords, entityWords, cellWords, occupiedWords, emptiedWords, idWords, groupWords, entityCount, cellCount, occupiedCount, emptiedCount, idCount, groupCount, nextId, kindOf}
 use Rattle.layout.specs.Points.{tidy}
 
 -- From the place f on the list w is r.
@@ -59,6 +58,7 @@ pub record BeginsWith (s : State) (w : List ℕ) : Type 0 where
   pub id-count : idCount w ≡ length (s .groups .ids)
   pub group-count : groupCount w ≡ length (s .records)
   pub next-id : nextId w ≡ s .groups .next
+  pub kind-is : kindOf w ≡ s .kind
   pub spare-zero : areZero (spareWords w) ≡ true
   pub entity-words : entityWords w ≡ entitiesImage entitiesLen (s .occupancy .entities)
   pub cell-words : cellWords w ≡ cellsImage cellsLen (s .occupancy .masks)
@@ -77,4 +77,4 @@ pub record Orderly (w : List ℕ) : Type 0 where
   pub group-rows : tidy groupWidth mostCells (groupCount w) (groupWords w) ≡ true
   pub occupied-rows : tidy netWidth mostCells (occupiedCount w) (occupiedWords w) ≡ true
   pub emptied-rows : tidy netWidth mostCells (emptiedCount w) (emptiedWords w) ≡ true
-  pub yard : consistent touch26 (decode w) ≡ true
+  pub yard : consistent (decode w) ≡ true

@@ -1,4 +1,5 @@
 pub mod Numbers
+pub mod Kinds
 pub mod Zeros
 pub mod Rows
 pub mod Images

@@ -1,13 +1,13 @@
--- Consistency of words: the eight points, each with the layout faults that fall under it.
-use Prim.Native.Nat.{ℕ, suc, _*_, min}
+-- Consistency of words: point 9, which is tried first, and the eight points, each with the layout faults that fall under it.
+use Prim.Native.Nat.{ℕ, _*_, min}
 use mathlib.Core.Bool.{Bool, cond, _&&_}
 use mathlib.Core.List.{List, [], _∷_}
 use lib.Dec.{eqb, leb}
 use lib.ListN.{length, drop}
 use Rattle.model.specs.Lists.{all, values}
-use Rattle.model.specs.Cells.{cellInRange, touch26}
-use Rattle.model.specs.Update.{mostEntities, mostCells}
-use Rattle.model.specs.Consistent.{withinNumber, cellsExact, masksExact, idsShared, recordsExact, idsBelowNext, netsInOrder}
+use Rattle.model.specs.Cells.{cellInRange}
+use Rattle.model.specs.Update.{mostEntities, mostCells, touchOf}
+use Rattle.model.specs.Consistent.{withinNumber, cellsExact, masksExact, idsShared, recordsExact, idsBelowNext, netsInOrder, kindKnown}
 use Rattle.table.specs.Rows.{areZero}
 use Rattle.layout.specs.Widths.{entityWidth, cellWidth, netWidth, idWidth, groupWidth}
 use Rattle.layout.specs.Rows.{netIn}
@@ -32,11 +32,11 @@ point2 w =
 
 -- 3. Each mask has exactly the bits of touching occupied cells.
 unfoldable pub point3 : List ℕ → Bool
-point3 w = masksExact touch26 (decode w)
+point3 w = masksExact (touchOf (decode w)) (decode w)
 
 -- 4. Ids shared exactly by joined cells.
 unfoldable pub point4 : List ℕ → Bool
-point4 w = idsShared touch26 (decode w)
+point4 w = idsShared (touchOf (decode w)) (decode w)
 
 -- 5. One group record for each id that a cell has and no other, its grid, corners and counts exact. Here too: the group rows.
 unfoldable pub point5 : List ℕ → Bool
@@ -58,22 +58,26 @@ point8 w =
     tidy netWidth mostCells (occupiedCount w) (occupiedWords w)
     && (tidy netWidth mostCells (emptiedCount w) (emptiedWords w) && netsInOrder (decode w))
 
+-- 9. The stored kind of touching is 6, 18 or 26.
+unfoldable pub point9 : List ℕ → Bool
+point9 w = kindKnown (decode w)
+
 -- Whether the words are long enough for a state.
 abbrev pub longEnough : List ℕ → Bool
 longEnough w = leb stateLen (length w)
 
--- The eight points in order.
-abbrev pub points : List ℕ → List Bool
-points w = point1 w ∷ point2 w ∷ point3 w ∷ point4 w ∷ point5 w ∷ point6 w ∷ point7 w ∷ point8 w ∷ []
+-- The points in the order in which they are tried, each with its number: 9, then 1 to 8.
+abbrev pub points : List ℕ → List (ℕ × Bool)
+points w = (9, point9 w) ∷ (1, point1 w) ∷ (2, point2 w) ∷ (3, point3 w) ∷ (4, point4 w) ∷ (5, point5 w) ∷ (6, point6 w) ∷ (7, point7 w) ∷ (8, point8 w) ∷ []
 
--- The number of the first that does not hold, the first of them being n; 0 where all hold.
-abbrev pub firstFrom : ℕ → List Bool → ℕ
-firstFrom n [] = 0
-firstFrom n (b ∷ bs) = cond b (firstFrom (suc n) bs) n
+-- The number of the first that does not hold; 0 where all hold.
+abbrev pub firstOf : List (ℕ × Bool) → ℕ
+firstOf [] = 0
+firstOf (p ∷ ps) = cond (p .1) (firstOf ps) (p .0)
 
--- The first broken point, 1 to 8; 0 where none is.
+-- The first broken point: 9 before 1 to 8; 0 where none is.
 unfoldable pub firstBroken : List ℕ → ℕ
-firstBroken w = firstFrom 1 (points w)
+firstBroken w = firstOf (points w)
 
 -- Whether the words of a state are consistent: no point is broken.
 abbrev pub consistentWords : List ℕ → Bool

@@ -4,7 +4,7 @@ use mathlib.Core.List.{List, _∷_, _++_}
 use lib.ListN.{length, getD, replicate}
 use lib.Seq.{slice}
 use Rattle.model.specs.Update.{State}
-use Rattle.layout.specs.Widths.{headerLen, nextIdAt, spare}
+use Rattle.layout.specs.Widths.{headerLen, nextIdAt, kindAt, spare}
 use Rattle.layout.specs.Rows.{entitiesImage, cellsImage, netImage, idsImage, groupsImage, entitiesIn, cellsIn, netIn, idsIn, groupsIn}
 
 -- 4,096 entities of 5 words.
@@ -49,12 +49,12 @@ groupsFrom = 38928
 unfoldable pub stateLen : ℕ
 stateLen = 49168
 
--- The header of a state: how many rows each table has, the next id, zeros.
+-- The header of a state: how many rows each table has, the next id, what touching means, zeros.
 abbrev pub header : State → List ℕ
 header s =
     length (s .occupancy .entities) ∷ length (s .occupancy .masks)
     ∷ length (s .occupancy .newlyOccupied) ∷ length (s .occupancy .newlyEmptied)
-    ∷ length (s .groups .ids) ∷ length (s .records) ∷ s .groups .next ∷ replicate (headerLen - spare) 0
+    ∷ length (s .groups .ids) ∷ length (s .records) ∷ s .groups .next ∷ s .kind ∷ replicate (headerLen - spare) 0
 
 -- The one image of a state.
 unfoldable pub encode : State → List ℕ
@@ -112,10 +112,14 @@ groupCount w = getD w 5 0
 abbrev pub nextId : List ℕ → ℕ
 nextId w = getD w nextIdAt 0
 
+abbrev pub kindOf : List ℕ → ℕ
+kindOf w = getD w kindAt 0
+
 -- The state that words stand for.
 unfoldable pub decode : List ℕ → State
 decode w =
     record {
+      kind = kindOf w;
       occupancy = record {
         entities = entitiesIn (entityCount w) (entityWords w);
         masks = cellsIn (cellCount w) (cellWords w);

@@ -1,15 +1,18 @@
 -- How wide each row is, and what stands where in it and in the header.
 use Prim.Native.Nat.{ℕ}
 
--- The header: how many rows each table has, and the next id; from `spare` on zeros.
+-- The header: how many rows each table has, the next id, and what touching means; from `spare` on zeros.
 abbrev pub headerLen : ℕ
 headerLen = 16
 
 abbrev pub nextIdAt : ℕ
 nextIdAt = 6
 
+abbrev pub kindAt : ℕ
+kindAt = 7
+
 abbrev pub spare : ℕ
-spare = 7
+spare = 8
 
 -- An entity's row: the entity, then its cell.
 abbrev pub entityWidth : ℕ

@@ -20,7 +20,7 @@ pub const MOST_EVENTS: usize = 1024;
 
 pub const MOST_NEXT_ID: u64 = 18446744073709549567;
 
-// The words of the header: how many rows each table has, and the next id; those from SPARE to its end are zero.
+// The words of the header: how many rows each table has, the next id, and what touching means; those from SPARE to its end are zero.
 pub const ENTITY_COUNT: usize = 0;
 
 pub const CELL_COUNT: usize = 1;
@@ -35,7 +35,9 @@ pub const GROUP_COUNT: usize = 5;
 
 pub const NEXT_ID: usize = 6;
 
-pub const SPARE: usize = 7;
+pub const KIND: usize = 7;
+
+pub const SPARE: usize = 8;
 
 pub const HEADER_LEN: usize = 16;
 

@@ -9,10 +9,11 @@ use Rattle.model.specs.Questions.{Listed}
 use Rattle.model.specs.Cells.{Cell, same}
 use Rattle.model.specs.Update.{State}
 
--- A state with a table of occupied cells and nothing else.
+-- A state with a table of occupied cells and nothing else, not even a kind of touching.
 abbrev pub having : List (Cell × ℕ) → State
 having t =
     record {
+      kind = 0;
       occupancy = record { entities = []; masks = t; newlyOccupied = []; newlyEmptied = [] };
       groups = record { ids = []; next = 0 };
       records = [];

@@ -12,12 +12,12 @@ use refusal::Refusal;
 use table::Place;
 ghost use mathlib.Core.Path.{_≡_};
 ghost use mathlib.Core.Bool.{true};
-ghost use Prim.Native.Nat.{_*_, _≤_, _<_};
+ghost use Prim.Native.Nat.{ℕ, _*_, _≤_, _<_};
 ghost use lib.ListN.{length, take};
 ghost use Rattle.component.specs.Range.{cellInRange};
 ghost use Rattle.model.specs.Lists.{keys};
-ghost use Rattle.model.specs.Cells.{touch26};
-ghost use Rattle.model.specs.Questions.{nearby as nearbyBy, cube as cubeBy};
+ghost use Rattle.model.specs.Cells.{touchAt};
+ghost use Rattle.model.specs.Questions.{nearbyBy, cube as cubeBy};
 ghost use Rattle.model.specs.Update.{mostEntities, mostCells};
 ghost use Rattle.model.specs.Shortest.{shownPath};
 ghost use Rattle.table.specs.Rows.{table1};
@@ -130,8 +130,8 @@ pub fn give_entities(rows: &[u64], n: usize, c: Cell, answer: &mut [u64]) -> Lis
 
 // A cell and the occupied cells that it touches, by the rows of the occupied cells.
 pub fn give_nearby(cells: &[u64], n: usize, c: Cell, answer: &mut [u64]) -> Listing
-    requires { ⌜ Cells (now cells) n (cellsIn n (now cells)) ⌝ }
-    ensures { λ r. ⌜ (listingTold r, now (answer .exit)) ≡ listedCells (nearbyBy touch26 (having (cellsIn n (now (cells .entry)))) c) (now (answer .entry)) ⌝ }
+    requires { ⌜ ((kind : ℕ) × Cells kind (now cells) n (cellsIn n (now cells))) ⌝ }
+    ensures { λ r. ⌜ ((kind : ℕ) → Cells kind (now (cells .entry)) n (cellsIn n (now (cells .entry))) → (listingTold r, now (answer .exit)) ≡ listedCells (nearbyBy (touchAt kind) (having (cellsIn n (now (cells .entry)))) c) (now (answer .entry))) ⌝ }
 {
     let mut words = [0u64; ANSWER_WIDTH * MOST_CELLS];
     let p = table::find4(cells, CELL_WIDTH, n, c);
@@ -146,7 +146,7 @@ pub fn give_nearby(cells: &[u64], n: usize, c: Cell, answer: &mut [u64]) -> List
 
 // The centre if it is occupied, then the occupied cells beside it, by the rows of the occupied cells.
 pub fn give_cube(cells: &[u64], n: usize, c: Cell, radius: u8, answer: &mut [u64]) -> Listing
-    requires { ⌜ Cells (now cells) n (cellsIn n (now cells)) × (cellInRange c ≡ true) × (n ≤ mostCells) ⌝ }
+    requires { ⌜ ((kind : ℕ) × Cells kind (now cells) n (cellsIn n (now cells))) × (cellInRange c ≡ true) × (n ≤ mostCells) ⌝ }
     ensures { λ r. ⌜ (listingTold r, now (answer .exit)) ≡ listedCells (cubeBy (having (cellsIn n (now (cells .entry)))) c radius) (now (answer .entry)) ⌝ }
 {
     let mut words = [0u64; ANSWER_WIDTH * MOST_CELLS + ANSWER_WIDTH];
@@ -166,8 +166,8 @@ pub fn give_cube(cells: &[u64], n: usize, c: Cell, radius: u8, answer: &mut [u64
 
 // The path between two rows that are there; 12 where none leads.
 fn path_between(cells: &[u64], n: usize, from: usize, to: usize, answer: &mut [u64]) -> Listing
-    requires { ⌜ Cells (now cells) n (cellsIn n (now cells)) × (from < n) × (to < n) × (n ≤ mostCells) ⌝ }
-    ensures { λ r. ⌜ (listingTold r, now (answer .exit)) ≡ pathFrom (shownRows (now (cells .entry)) (cellsIn n (now (cells .entry))) from to) (now (answer .entry)) ⌝ }
+    requires { ⌜ ((kind : ℕ) × Cells kind (now cells) n (cellsIn n (now cells))) × (from < n) × (to < n) × (n ≤ mostCells) ⌝ }
+    ensures { λ r. ⌜ ((kind : ℕ) → Cells kind (now (cells .entry)) n (cellsIn n (now (cells .entry))) → (listingTold r, now (answer .exit)) ≡ pathFrom (shownRows kind (now (cells .entry)) (cellsIn n (now (cells .entry))) from to) (now (answer .entry))) ⌝ }
 {
     let mut words = [0u64; ANSWER_WIDTH * MOST_CELLS];
     let k = path::path_rows(cells, n, from, to, &mut words);
@@ -179,8 +179,8 @@ fn path_between(cells: &[u64], n: usize, from: usize, to: usize, answer: &mut [u
 
 // The path between two cells, by the rows of the occupied cells; 12 also where an end is unoccupied.
 pub fn give_path(cells: &[u64], n: usize, a: Cell, b: Cell, answer: &mut [u64]) -> Listing
-    requires { ⌜ Cells (now cells) n (cellsIn n (now cells)) × (n ≤ mostCells) ⌝ }
-    ensures { λ r. ⌜ (listingTold r, now (answer .exit)) ≡ pathFrom (shownPath touch26 (keys (cellsIn n (now (cells .entry)))) a b) (now (answer .entry)) ⌝ }
+    requires { ⌜ ((kind : ℕ) × Cells kind (now cells) n (cellsIn n (now cells))) × (n ≤ mostCells) ⌝ }
+    ensures { λ r. ⌜ ((kind : ℕ) → Cells kind (now (cells .entry)) n (cellsIn n (now (cells .entry))) → (listingTold r, now (answer .exit)) ≡ pathFrom (shownPath (touchAt kind) (keys (cellsIn n (now (cells .entry)))) a b) (now (answer .entry))) ⌝ }
 {
     let p = table::find4(cells, CELL_WIDTH, n, a);
     let q = table::find4(cells, CELL_WIDTH, n, b);

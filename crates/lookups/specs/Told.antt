@@ -8,12 +8,18 @@ use Rattle.component.specs.declared.CellId.{CellId}
 use Rattle.component.specs.Stored.{unbiased}
 use Rattle.model.specs.Groups.{Corner, Group}
 use Rattle.told.specs.Told.{Told, done, refused}
+use Rattle.lookups.specs.declared.KindOf.{KindOf}
 use Rattle.lookups.specs.declared.Where.{Where}
 use Rattle.lookups.specs.declared.IdOf.{IdOf}
 use Rattle.lookups.specs.declared.CountOf.{CountOf}
 use Rattle.lookups.specs.declared.Shown.{Shown}
 use Rattle.lookups.specs.declared.GroupOf.{GroupOf}
 use Rattle.lookups.specs.declared.Under.{Under}
+
+-- What touching means in a state: 0 and the kind, or the refusal.
+abbrev pub kindTold : KindOf → Told ℕ
+kindTold (KindOf.Is k) = done k
+kindTold (KindOf.Refused r) = refused r
 
 -- Where an entity stands: 0 and the cell, 0 and none, or the refusal.
 abbrev pub whereTold : Where → Told (Option CellId)

@@ -30,6 +30,12 @@ ghost use Rattle.told.specs.Told.{done, seen};
 ghost use Rattle.lookups.specs.Told.{whereTold, idTold, countTold, groupTold, underCell, cornerOf, shownOf, cornersOf};
 ghost use Rattle.lookups.specs.Rows.{groupAt};
 
+// What touching means in a state.
+pub enum KindOf {
+    Is(u64),
+    Refused(Refusal),
+}
+
 // Where an entity stands.
 pub enum Where {
     Found(CellId),

@@ -7,7 +7,7 @@ use mathlib.Core.List.{List, [], _∷_, _++_}
 use mathlib.Core.Option.{Option, none, some}
 use lib.Dec.{eqb}
 use Rattle.model.specs.Lists.{get, run}
-use Rattle.model.specs.Cells.{Cell, same, cellInRange, touch26}
+use Rattle.model.specs.Cells.{Cell, same, cellInRange, touchAt}
 use Rattle.model.specs.Occupancy.{Occupancy, leavesFrom, isAt, enters, pass, enter, leave}
 use Rattle.model.specs.Laws.Tests.{T-true}
 use Rattle.model.specs.Laws.Orders.{numbers}
@@ -35,7 +35,7 @@ nowhere-is : (m : Option Cell) → Nowhere ≡ standIn m → m ≡ none
 nowhere-is none e = refl
 nowhere-is (some c) e = let z : _≡_ {A = ℕ} 0 1 = cc in absurd (omega arith)
 
-module _ (ents cells crowd occ emp : List ℕ) (n : Counts) (o : Occupancy) (h : Held ents cells crowd occ emp n o) (e : ℕ) where
+module _ {kind : ℕ} (ents cells crowd occ emp : List ℕ) (n : Counts) (o : Occupancy) (h : Held kind ents cells crowd occ emp n o) (e : ℕ) where
   where-is : standOf (get eqb (table1 entityWidth (n .entities) ents) e) ≡ standIn (get eqb (o .entities) e)
   where-is =
       ap (λ (t : List (ℕ × List ℕ)). standOf (get eqb t e)) (ents-shows ents cells crowd occ emp n o h .is)
@@ -50,44 +50,44 @@ module _ (ents cells crowd occ emp : List ℕ) (n : Counts) (o : Occupancy) (h :
   pub stands-nowhere : (s : Stand) → s ≡ Nowhere → s ≡ standOf (get eqb (table1 entityWidth (n .entities) ents) e) → get eqb (o .entities) e ≡ none
   stands-nowhere s p q = nowhere-is (get eqb (o .entities) e) (sym p ∙ q ∙ where-is)
 
-module _ (o : Occupancy) (e : ℕ) where
+module _ (kind : ℕ) (o : Occupancy) (e : ℕ) where
   abbrev removalBy : Option Cell → Occupancy
-  removalBy m = run (pass touch26) o (leavesFrom e m)
+  removalBy m = run (pass (touchAt kind)) o (leavesFrom e m)
 
   abbrev moveBy : Cell → Bool → Option Cell → Occupancy
-  moveBy c b m = run (pass touch26) o (cond b [] (leavesFrom e m ++ (enters e c ∷ [])))
+  moveBy c b m = run (pass (touchAt kind)) o (cond b [] (leavesFrom e m ++ (enters e c ∷ [])))
 
   -- A removal of an entity that stands in d.
-  pub removal-known : (d : Cell) → get eqb (o .entities) e ≡ some d → leave touch26 e d o ≡ removalOf e o
+  pub removal-known : (d : Cell) → get eqb (o .entities) e ≡ some d → leave (touchAt kind) e d o ≡ removalOf kind e o
   removal-known d p = ap removalBy (sym p)
 
   -- A removal of an unknown entity.
-  pub removal-unknown : get eqb (o .entities) e ≡ none → o ≡ removalOf e o
+  pub removal-unknown : get eqb (o .entities) e ≡ none → o ≡ removalOf kind e o
   removal-unknown p = ap removalBy (sym p)
 
   module _ (c : Cell) where
     -- A move to where the entity stands.
-    pub move-still : (d : Cell) → get eqb (o .entities) e ≡ some d → same c d ≡ true → o ≡ moveOf e c o
+    pub move-still : (d : Cell) → get eqb (o .entities) e ≡ some d → same c d ≡ true → o ≡ moveOf kind e c o
     move-still d p t = (λ i. moveBy c (sym t i) (some d)) ∙ (λ i. moveBy c (isAt (sym p i) c) (sym p i))
 
     -- A move from d.
-    pub move-known : (d : Cell) → get eqb (o .entities) e ≡ some d → same c d ≡ false → enter touch26 e c (leave touch26 e d o) ≡ moveOf e c o
+    pub move-known : (d : Cell) → get eqb (o .entities) e ≡ some d → same c d ≡ false → enter (touchAt kind) e c (leave (touchAt kind) e d o) ≡ moveOf kind e c o
     move-known d p t = (λ i. moveBy c (sym t i) (some d)) ∙ (λ i. moveBy c (isAt (sym p i) c) (sym p i))
 
     -- A move of an unknown entity.
-    pub move-unknown : get eqb (o .entities) e ≡ none → enter touch26 e c o ≡ moveOf e c o
+    pub move-unknown : get eqb (o .entities) e ≡ none → enter (touchAt kind) e c o ≡ moveOf kind e c o
     move-unknown p = λ i. moveBy c (isAt (sym p i) c) (sym p i)
 
-module _ (ents cells crowd occ emp : List ℕ) (n : Counts) (o : Occupancy) (h : Held ents cells crowd occ emp n o) (e : ℕ) where
+module _ {kind : ℕ} (ents cells crowd occ emp : List ℕ) (n : Counts) (o : Occupancy) (h : Held kind ents cells crowd occ emp n o) (e : ℕ) where
   -- An entity that stands in d can leave it.
-  pub can-leave : (d : Cell) → get eqb (o .entities) e ≡ some d → RoomToLeave emp n → Leaves ents cells crowd occ emp n e d o
+  pub can-leave : (d : Cell) → get eqb (o .entities) e ≡ some d → RoomToLeave emp n → Leaves kind ents cells crowd occ emp n e d o
   can-leave d p r = record { held = h; stands = record { is = p }; space = r }
 
   module _ (c : Cell) (t : cellInRange c ≡ true) (r : RoomToEnter ents cells crowd occ n) where
     -- An unknown entity can enter.
-    pub can-enter : get eqb (o .entities) e ≡ none → Enters ents cells crowd occ emp n e c o
+    pub can-enter : get eqb (o .entities) e ≡ none → Enters kind ents cells crowd occ emp n e c o
     can-enter p = record { held = h; free = free-of (o .entities) e p; ranged = t; space = r }
 
     -- An entity that stands in d can move.
-    pub can-move : (d : Cell) → get eqb (o .entities) e ≡ some d → RoomToLeave emp n → Moves ents cells crowd occ emp n e d c o
+    pub can-move : (d : Cell) → get eqb (o .entities) e ≡ some d → RoomToLeave emp n → Moves kind ents cells crowd occ emp n e d c o
     can-move d p l = record { leaving = can-leave d p l; ranged = t; space = r }

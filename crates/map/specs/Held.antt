@@ -7,7 +7,7 @@ use mathlib.Core.Option.{Option, none, some}
 use lib.Dec.{eqb}
 use lib.ListN.{length, getD}
 use Rattle.model.specs.Lists.{ascending, values}
-use Rattle.model.specs.Cells.{Cell, same, below, cellInRange, touch26}
+use Rattle.model.specs.Cells.{Cell, same, below, cellInRange, touchAt}
 use Rattle.model.specs.Crowd.{howMany, tallied}
 use Rattle.model.specs.Occupancy.{Occupancy, occupied, remove, moveTo, play}
 use Rattle.model.specs.Laws.Sorted.{Asc}
@@ -26,9 +26,9 @@ tally t = tallied (howMany t) (ascending below (values t))
 unfoldable pub crowdOf : Occupancy → List (Cell × ℕ)
 crowdOf o = tallied (howMany (o .entities)) (occupied o)
 
--- An occupancy that is sound and in range; its net lists ascend, the newly occupied cells are occupied, and the newly emptied are not.
-pub record Placed (o : Occupancy) : Type 0 where
-  pub sound : Sound touch26 o
+-- An occupancy that is sound at a kind of touching and in range; its net lists ascend, the newly occupied cells are occupied, and the newly emptied are not.
+pub record Placed (kind : ℕ) (o : Occupancy) : Type 0 where
+  pub sound : Sound (touchAt kind) o
   pub inside : Inside cellInRange o
   pub opened-asc : Asc below (o .newlyOccupied)
   pub emptied-asc : Asc below (o .newlyEmptied)
@@ -48,21 +48,21 @@ pub record Stored (cells occ emp : List ℕ) (n : Counts) (o : Occupancy) : Type
   pub emptied-fit : netWidth * n .emptied ≤ length emp
 
 -- The whole map in words: the entities, the occupied cells, how many stand in each, and both net lists.
-pub record Held (ents cells crowd occ emp : List ℕ) (n : Counts) (o : Occupancy) : Type 0 where
+pub record Held (kind : ℕ) (ents cells crowd occ emp : List ℕ) (n : Counts) (o : Occupancy) : Type 0 where
   pub entities-is : ents ≡ entitiesImage (length ents) (o .entities)
   pub entities-count : n .entities ≡ length (o .entities)
   pub entities-fit : entityWidth * n .entities ≤ length ents
   pub crowd-is : crowd ≡ idsImage (length crowd) (crowdOf o)
   pub crowd-fit : crowdWidth * n .cells ≤ length crowd
   pub stored : Stored cells occ emp n o
-  pub placed : Placed o
+  pub placed : Placed kind o
 
 -- The map in words but for the entities: the occupied cells, how many stand in each, and both net lists.
-pub record Peopled (cells crowd occ emp : List ℕ) (n : Counts) (o : Occupancy) : Type 0 where
+pub record Peopled (kind : ℕ) (cells crowd occ emp : List ℕ) (n : Counts) (o : Occupancy) : Type 0 where
   pub crowd-is : crowd ≡ idsImage (length crowd) (crowdOf o)
   pub crowd-fit : crowdWidth * n .cells ≤ length crowd
   pub stored : Stored cells occ emp n o
-  pub placed : Placed o
+  pub placed : Placed kind o
 
 -- There is space for one cell more, with its mask, and for one newly occupied cell more.
 pub record RoomToOpen (cells occ : List ℕ) (n : Counts) : Type 0 where
@@ -80,36 +80,36 @@ abbrev pub RoomToLeave : List ℕ → Counts → Type 0
 RoomToLeave emp n = netWidth * suc (n .emptied) ≤ length emp
 
 -- The cell c, which is in range and not occupied, can open.
-pub record Opens (cells occ emp : List ℕ) (n : Counts) (c : Cell) (o : Occupancy) : Type 0 where
-  pub placed : Placed o
+pub record Opens (kind : ℕ) (cells occ emp : List ℕ) (n : Counts) (c : Cell) (o : Occupancy) : Type 0 where
+  pub placed : Placed kind o
   pub stored : Stored cells occ emp n o
   pub vacant : Mem c (occupied o) → ⊥
   pub ranged : cellInRange c ≡ true
   pub space : RoomToOpen cells occ n
 
 -- The cell c, which is occupied, can close.
-pub record Closes (cells occ emp : List ℕ) (n : Counts) (c : Cell) (o : Occupancy) : Type 0 where
-  pub placed : Placed o
+pub record Closes (kind : ℕ) (cells occ emp : List ℕ) (n : Counts) (c : Cell) (o : Occupancy) : Type 0 where
+  pub placed : Placed kind o
   pub stored : Stored cells occ emp n o
   pub taken : Mem c (occupied o)
   pub space : RoomToLeave emp n
 
 -- The entity e, which stands nowhere, can enter c, which is in range.
-pub record Enters (ents cells crowd occ emp : List ℕ) (n : Counts) (e : ℕ) (c : Cell) (o : Occupancy) : Type 0 where
-  pub held : Held ents cells crowd occ emp n o
+pub record Enters (kind : ℕ) (ents cells crowd occ emp : List ℕ) (n : Counts) (e : ℕ) (c : Cell) (o : Occupancy) : Type 0 where
+  pub held : Held kind ents cells crowd occ emp n o
   pub free : Free eqb (o .entities) e
   pub ranged : cellInRange c ≡ true
   pub space : RoomToEnter ents cells crowd occ n
 
 -- The entity e, which stands in c, can leave it.
-pub record Leaves (ents cells crowd occ emp : List ℕ) (n : Counts) (e : ℕ) (c : Cell) (o : Occupancy) : Type 0 where
-  pub held : Held ents cells crowd occ emp n o
+pub record Leaves (kind : ℕ) (ents cells crowd occ emp : List ℕ) (n : Counts) (e : ℕ) (c : Cell) (o : Occupancy) : Type 0 where
+  pub held : Held kind ents cells crowd occ emp n o
   pub stands : At eqb (o .entities) e c
   pub space : RoomToLeave emp n
 
 -- The entity e, which stands nowhere and is counted, can enter c, which is in range.
-pub record EntersCell (cells crowd occ emp : List ℕ) (n : Counts) (e : ℕ) (c : Cell) (o : Occupancy) : Type 0 where
-  pub peopled : Peopled cells crowd occ emp n o
+pub record EntersCell (kind : ℕ) (cells crowd occ emp : List ℕ) (n : Counts) (e : ℕ) (c : Cell) (o : Occupancy) : Type 0 where
+  pub peopled : Peopled kind cells crowd occ emp n o
   pub free : Free eqb (o .entities) e
   pub counts : length (o .entities) < n .entities
   pub ranged : cellInRange c ≡ true
@@ -117,24 +117,24 @@ pub record EntersCell (cells crowd occ emp : List ℕ) (n : Counts) (e : ℕ) (c
   pub opening : RoomToOpen cells occ n
 
 -- The entity e, which stands in c, can leave it.
-pub record LeavesCell (cells crowd occ emp : List ℕ) (n : Counts) (e : ℕ) (c : Cell) (o : Occupancy) : Type 0 where
-  pub peopled : Peopled cells crowd occ emp n o
+pub record LeavesCell (kind : ℕ) (cells crowd occ emp : List ℕ) (n : Counts) (e : ℕ) (c : Cell) (o : Occupancy) : Type 0 where
+  pub peopled : Peopled kind cells crowd occ emp n o
   pub stands : At eqb (o .entities) e c
   pub space : RoomToLeave emp n
 
 -- The entity e, which stands in d, can leave it and enter c, which is in range.
-pub record Moves (ents cells crowd occ emp : List ℕ) (n : Counts) (e : ℕ) (d c : Cell) (o : Occupancy) : Type 0 where
-  pub leaving : Leaves ents cells crowd occ emp n e d o
+pub record Moves (kind : ℕ) (ents cells crowd occ emp : List ℕ) (n : Counts) (e : ℕ) (d c : Cell) (o : Occupancy) : Type 0 where
+  pub leaving : Leaves kind ents cells crowd occ emp n e d o
   pub ranged : cellInRange c ≡ true
   pub space : RoomToEnter ents cells crowd occ n
 
 -- The occupancy after a removal of e.
-abbrev pub removalOf : ℕ → Occupancy → Occupancy
-removalOf e o = play touch26 o (remove e)
+abbrev pub removalOf : ℕ → ℕ → Occupancy → Occupancy
+removalOf kind e o = play (touchAt kind) o (remove e)
 
 -- The occupancy after a move of e to c.
-abbrev pub moveOf : ℕ → Cell → Occupancy → Occupancy
-moveOf e c o = play touch26 o (moveTo e c)
+abbrev pub moveOf : ℕ → ℕ → Cell → Occupancy → Occupancy
+moveOf kind e c o = play (touchAt kind) o (moveTo e c)
 
 -- The number that a lookup in the crowd finds, 0 where it finds no row.
 abbrev pub counted : Option (List ℕ) → ℕ

@@ -1,5 +1,6 @@
 // The map in lent memory: where each entity stands, the occupied cells with their masks, how many stand in each, and both net lists.
 use component::Cell;
+use kinds::has_offset;
 use layout::CELL_MASK;
 use layout::CELL_WIDTH;
 use layout::CROWD_COUNT;
@@ -21,7 +22,7 @@ ghost use lib.ListN.{length, take, drop, replicate};
 ghost use lib.Dec.{eqb, ltb};
 ghost use Rattle.component.specs.Order.{same, below};
 ghost use Rattle.model.specs.Lists.{has, keys, get, put, dropKey, change};
-ghost use Rattle.model.specs.Cells.{touch26, cellInRange};
+ghost use Rattle.model.specs.Cells.{touchAt, cellInRange};
 ghost use Rattle.model.specs.Occupancy.{Occupancy, openCell, closeCell, enter, leave};
 ghost use Rattle.layout.specs.Widths.{entityWidth, cellWidth, netWidth, crowdWidth};
 ghost use Rattle.layout.specs.Rows.{neighbourOf, idsImage, entitiesIn};
@@ -29,7 +30,7 @@ ghost use Rattle.table.specs.Moves.{over};
 ghost use Rattle.table.specs.Rows.{cell, cellWords, placed, placeOf, table1, stored1, isTable1, hasRoom1, table4, stored4, isTable4, hasRoom4};
 ghost use Rattle.map.specs.Held.{Stored, Opens, Closes, Held, Peopled, Enters, EntersCell, Leaves, LeavesCell, Moves, RoomToEnter, RoomToLeave, removalOf, moveOf, counted, tally};
 ghost use Rattle.map.specs.StandOf.{standOf};
-ghost use Rattle.map.specs.Told.{TableIs, revisedMask, revisedRow, toldOne, told, noted};
+ghost use Rattle.map.specs.Told.{TableIs, revisedMask, revisedRow, toldOne, ofKind, told, noted};
 
 // How many rows each table has; the crowd has as many as the cells.
 pub struct Counts {
@@ -75,33 +76,41 @@ fn tell_one(cells: &mut [u64], m: usize, c: Cell, k: u64, joins: bool, near: usi
     }
 }
 
-// The mask of each occupied neighbour of c gains the bit of c, or loses it.
-fn tell(cells: &mut [u64], m: usize, c: Cell, joins: bool)
+// The mask of each occupied neighbour of c at the kind gains the bit of c, or loses it.
+fn tell(cells: &mut [u64], m: usize, kind: u64, c: Cell, joins: bool)
     requires { ⌜ isTable4 cellWidth m (now cells) ≡ true ⌝ }
-    ensures { λ _. ⌜ TableIs cell cellWidth m (now (cells .exit)) (change (told joins (neighbourOf c) 26) (table4 cellWidth m (now (cells .entry)))) ⌝ }
+    ensures { λ _. ⌜ TableIs cell cellWidth m (now (cells .exit)) (change (told (ofKind kind) joins (neighbourOf c) 26) (table4 cellWidth m (now (cells .entry)))) ⌝ }
 {
     let mut near = 0;
     let mut k = 0;
     while k < 26 {
-        near = tell_one(cells, m, c, k + 1, joins, near);
-        k += 1;
+        if has_offset(kind, k) {
+            near = tell_one(cells, m, c, k + 1, joins, near);
+            k += 1;
+        } else {
+            k += 1;
+        }
     }
 }
 
-// The mask of c among the cells of m rows.
-pub fn note(cells: &[u64], m: usize, c: Cell) -> u64
+// The mask of c at the kind among the cells of m rows.
+pub fn note(cells: &[u64], m: usize, kind: u64, c: Cell) -> u64
     requires { ⌜ isTable4 cellWidth m (now cells) ≡ true ⌝ }
-    ensures { λ r. ⌜ r ≡ noted (keys (table4 cellWidth m (now (cells .entry)))) (neighbourOf c) 26 ⌝ }
+    ensures { λ r. ⌜ r ≡ noted (ofKind kind) (keys (table4 cellWidth m (now (cells .entry)))) (neighbourOf c) 26 ⌝ }
 {
     let mut mask = 0;
     let mut near = 0;
     let mut k = 0;
     while k < 26 {
-        let p = find4_near(cells, CELL_WIDTH, m, neighbour_of(c, k + 1), near);
-        near = index(p);
-        if is_found(p) {
-            mask = mask::set(mask, k);
-            k += 1;
+        if has_offset(kind, k) {
+            let p = find4_near(cells, CELL_WIDTH, m, neighbour_of(c, k + 1), near);
+            near = index(p);
+            if is_found(p) {
+                mask = mask::set(mask, k);
+                k += 1;
+            } else {
+                k += 1;
+            }
         } else {
             k += 1;
         }
@@ -130,14 +139,21 @@ fn cross(from: &mut [u64], to: &mut [u64], n: usize, m: usize, c: Cell) -> Nets
 }
 
 // A cell opens: it gets its mask, joins those of its neighbours, and crosses the net lists.
-fn insert_entry(cells: &mut [u64], occ: &mut [u64], emp: &mut [u64], n: Counts, c: Cell) -> Counts
-    requires { ⌜ ((o : Occupancy) × Opens (now cells) (now occ) (now emp) n c o) ⌝ }
+fn insert_entry(
+    cells: &mut [u64],
+    occ: &mut [u64],
+    emp: &mut [u64],
+    n: Counts,
+    kind: u64,
+    c: Cell,
+) -> Counts
+    requires { ⌜ ((o : Occupancy) × Opens kind (now cells) (now occ) (now emp) n c o) ⌝ }
     ensures { λ r. ⌜ r .entities ≡ n .entities ⌝ }
-    ensures { λ r. ⌜ ((o : Occupancy) → Opens (now (cells .entry)) (now (occ .entry)) (now (emp .entry)) n c o → Stored (now (cells .exit)) (now (occ .exit)) (now (emp .exit)) r (openCell touch26 c o)) ⌝ }
+    ensures { λ r. ⌜ ((o : Occupancy) → Opens kind (now (cells .entry)) (now (occ .entry)) (now (emp .entry)) n c o → Stored (now (cells .exit)) (now (occ .exit)) (now (emp .exit)) r (openCell (touchAt kind) c o)) ⌝ }
 {
     let m = n.cells;
-    let w = note(cells, m, c);
-    tell(cells, m, c, true);
+    let w = note(cells, m, kind, c);
+    tell(cells, m, kind, c, true);
     let row = [c.grid, c.z, c.y, c.x, w];
     let k = table::put4(cells, m, &row);
     let x = cross(emp, occ, n.emptied, n.occupied, c);
@@ -150,13 +166,20 @@ fn insert_entry(cells: &mut [u64], occ: &mut [u64], emp: &mut [u64], n: Counts, 
 }
 
 // A cell closes: its row goes out, it leaves the masks of its neighbours, and crosses the net lists.
-fn remove_entry(cells: &mut [u64], occ: &mut [u64], emp: &mut [u64], n: Counts, c: Cell) -> Counts
-    requires { ⌜ ((o : Occupancy) × Closes (now cells) (now occ) (now emp) n c o) ⌝ }
+fn remove_entry(
+    cells: &mut [u64],
+    occ: &mut [u64],
+    emp: &mut [u64],
+    n: Counts,
+    kind: u64,
+    c: Cell,
+) -> Counts
+    requires { ⌜ ((o : Occupancy) × Closes kind (now cells) (now occ) (now emp) n c o) ⌝ }
     ensures { λ r. ⌜ r .entities ≡ n .entities ⌝ }
-    ensures { λ r. ⌜ ((o : Occupancy) → Closes (now (cells .entry)) (now (occ .entry)) (now (emp .entry)) n c o → Stored (now (cells .exit)) (now (occ .exit)) (now (emp .exit)) r (closeCell touch26 c o)) ⌝ }
+    ensures { λ r. ⌜ ((o : Occupancy) → Closes kind (now (cells .entry)) (now (occ .entry)) (now (emp .entry)) n c o → Stored (now (cells .exit)) (now (occ .exit)) (now (emp .exit)) r (closeCell (touchAt kind) c o)) ⌝ }
 {
     let k = table::remove4(cells, CELL_WIDTH, n.cells, c);
-    tell(cells, k, c, false);
+    tell(cells, k, kind, c, false);
     let x = cross(occ, emp, n.occupied, n.emptied, c);
     Counts {
         entities: n.entities,
@@ -194,16 +217,17 @@ fn enter_cell(
     occ: &mut [u64],
     emp: &mut [u64],
     n: Counts,
+    kind: u64,
     c: Cell,
 ) -> Counts
-    requires { ⌜ ((e : ℕ) × (o : Occupancy) × EntersCell (now cells) (now crowd) (now occ) (now emp) n e c o) ⌝ }
+    requires { ⌜ ((e : ℕ) × (o : Occupancy) × EntersCell kind (now cells) (now crowd) (now occ) (now emp) n e c o) ⌝ }
     ensures { λ r. ⌜ r .entities ≡ n .entities ⌝ }
-    ensures { λ r. ⌜ ((e : ℕ) (o : Occupancy) → EntersCell (now (cells .entry)) (now (crowd .entry)) (now (occ .entry)) (now (emp .entry)) n e c o → Peopled (now (cells .exit)) (now (crowd .exit)) (now (occ .exit)) (now (emp .exit)) r (enter touch26 e c o)) ⌝ }
+    ensures { λ r. ⌜ ((e : ℕ) (o : Occupancy) → EntersCell kind (now (cells .entry)) (now (crowd .entry)) (now (occ .entry)) (now (emp .entry)) n e c o → Peopled kind (now (cells .exit)) (now (crowd .exit)) (now (occ .exit)) (now (emp .exit)) r (enter (touchAt kind) e c o)) ⌝ }
 {
     let k = how_many(crowd, n.cells, c);
     set_count(crowd, n.cells, c, k + 1);
     if k == 0 {
-        return insert_entry(cells, occ, emp, n, c);
+        return insert_entry(cells, occ, emp, n, kind, c);
     }
     n
 }
@@ -215,16 +239,17 @@ fn leave_cell(
     occ: &mut [u64],
     emp: &mut [u64],
     n: Counts,
+    kind: u64,
     c: Cell,
 ) -> Counts
-    requires { ⌜ ((e : ℕ) × (o : Occupancy) × LeavesCell (now cells) (now crowd) (now occ) (now emp) n e c o) ⌝ }
+    requires { ⌜ ((e : ℕ) × (o : Occupancy) × LeavesCell kind (now cells) (now crowd) (now occ) (now emp) n e c o) ⌝ }
     ensures { λ r. ⌜ r .entities ≡ n .entities ⌝ }
-    ensures { λ r. ⌜ ((e : ℕ) (o : Occupancy) → LeavesCell (now (cells .entry)) (now (crowd .entry)) (now (occ .entry)) (now (emp .entry)) n e c o → Peopled (now (cells .exit)) (now (crowd .exit)) (now (occ .exit)) (now (emp .exit)) r (leave touch26 e c o)) ⌝ }
+    ensures { λ r. ⌜ ((e : ℕ) (o : Occupancy) → LeavesCell kind (now (cells .entry)) (now (crowd .entry)) (now (occ .entry)) (now (emp .entry)) n e c o → Peopled kind (now (cells .exit)) (now (crowd .exit)) (now (occ .exit)) (now (emp .exit)) r (leave (touchAt kind) e c o)) ⌝ }
 {
     let k = how_many(crowd, n.cells, c);
     if k <= 1 {
         table::remove4(crowd, CROWD_WIDTH, n.cells, c);
-        return remove_entry(cells, occ, emp, n, c);
+        return remove_entry(cells, occ, emp, n, kind, c);
     }
     set_count(crowd, n.cells, c, k - 1);
     n
@@ -247,11 +272,12 @@ fn insert(
     occ: &mut [u64],
     emp: &mut [u64],
     n: Counts,
+    kind: u64,
     e: u64,
     c: Cell,
 ) -> Counts
-    requires { ⌜ ((o : Occupancy) × Enters (now ents) (now cells) (now crowd) (now occ) (now emp) n e c o) ⌝ }
-    ensures { λ r. ⌜ ((o : Occupancy) → Enters (now (ents .entry)) (now (cells .entry)) (now (crowd .entry)) (now (occ .entry)) (now (emp .entry)) n e c o → Held (now (ents .exit)) (now (cells .exit)) (now (crowd .exit)) (now (occ .exit)) (now (emp .exit)) r (enter touch26 e c o)) ⌝ }
+    requires { ⌜ ((o : Occupancy) × Enters kind (now ents) (now cells) (now crowd) (now occ) (now emp) n e c o) ⌝ }
+    ensures { λ r. ⌜ ((o : Occupancy) → Enters kind (now (ents .entry)) (now (cells .entry)) (now (crowd .entry)) (now (occ .entry)) (now (emp .entry)) n e c o → Held kind (now (ents .exit)) (now (cells .exit)) (now (crowd .exit)) (now (occ .exit)) (now (emp .exit)) r (enter (touchAt kind) e c o)) ⌝ }
 {
     let a = set_stand(ents, n.entities, e, c);
     let r = Counts {
@@ -260,22 +286,23 @@ fn insert(
         occupied: n.occupied,
         emptied: n.emptied,
     };
-    enter_cell(cells, crowd, occ, emp, r, c)
+    enter_cell(cells, crowd, occ, emp, r, kind, c)
 }
 
 // The entity, which stands in c, stands nowhere.
-pub fn remove(
+fn remove(
     ents: &mut [u64],
     cells: &mut [u64],
     crowd: &mut [u64],
     occ: &mut [u64],
     emp: &mut [u64],
     n: Counts,
+    kind: u64,
     e: u64,
     c: Cell,
 ) -> Counts
-    requires { ⌜ ((o : Occupancy) × Leaves (now ents) (now cells) (now crowd) (now occ) (now emp) n e c o) ⌝ }
-    ensures { λ r. ⌜ ((o : Occupancy) → Leaves (now (ents .entry)) (now (cells .entry)) (now (crowd .entry)) (now (occ .entry)) (now (emp .entry)) n e c o → Held (now (ents .exit)) (now (cells .exit)) (now (crowd .exit)) (now (occ .exit)) (now (emp .exit)) r (leave touch26 e c o)) ⌝ }
+    requires { ⌜ ((o : Occupancy) × Leaves kind (now ents) (now cells) (now crowd) (now occ) (now emp) n e c o) ⌝ }
+    ensures { λ r. ⌜ ((o : Occupancy) → Leaves kind (now (ents .entry)) (now (cells .entry)) (now (crowd .entry)) (now (occ .entry)) (now (emp .entry)) n e c o → Held kind (now (ents .exit)) (now (cells .exit)) (now (crowd .exit)) (now (occ .exit)) (now (emp .exit)) r (leave (touchAt kind) e c o)) ⌝ }
 {
     let a = table::remove1(ents, ENTITY_WIDTH, n.entities, e);
     let r = Counts {
@@ -284,7 +311,7 @@ pub fn remove(
         occupied: n.occupied,
         emptied: n.emptied,
     };
-    leave_cell(cells, crowd, occ, emp, r, c)
+    leave_cell(cells, crowd, occ, emp, r, kind, c)
 }
 
 // The entity, which stands in d, stands in c: its row stays at its place, as to take it out and put it in again would shift all behind it twice.
@@ -295,16 +322,17 @@ fn relocate(
     occ: &mut [u64],
     emp: &mut [u64],
     n: Counts,
+    kind: u64,
     e: u64,
     d: Cell,
     c: Cell,
 ) -> Counts
-    requires { ⌜ ((o : Occupancy) × Moves (now ents) (now cells) (now crowd) (now occ) (now emp) n e d c o) ⌝ }
-    ensures { λ r. ⌜ ((o : Occupancy) → Moves (now (ents .entry)) (now (cells .entry)) (now (crowd .entry)) (now (occ .entry)) (now (emp .entry)) n e d c o → Held (now (ents .exit)) (now (cells .exit)) (now (crowd .exit)) (now (occ .exit)) (now (emp .exit)) r (enter touch26 e c (leave touch26 e d o))) ⌝ }
+    requires { ⌜ ((o : Occupancy) × Moves kind (now ents) (now cells) (now crowd) (now occ) (now emp) n e d c o) ⌝ }
+    ensures { λ r. ⌜ ((o : Occupancy) → Moves kind (now (ents .entry)) (now (cells .entry)) (now (crowd .entry)) (now (occ .entry)) (now (emp .entry)) n e d c o → Held kind (now (ents .exit)) (now (cells .exit)) (now (crowd .exit)) (now (occ .exit)) (now (emp .exit)) r (enter (touchAt kind) e c (leave (touchAt kind) e d o))) ⌝ }
 {
     set_stand(ents, n.entities, e, c);
-    let r = leave_cell(cells, crowd, occ, emp, n, d);
-    enter_cell(cells, crowd, occ, emp, r, c)
+    let r = leave_cell(cells, crowd, occ, emp, n, kind, d);
+    enter_cell(cells, crowd, occ, emp, r, kind, c)
 }
 
 // Where an entity stands.
@@ -333,14 +361,15 @@ pub fn play_removal(
     occ: &mut [u64],
     emp: &mut [u64],
     n: Counts,
+    kind: u64,
     e: u64,
 ) -> Counts
-    requires { ⌜ ((o : Occupancy) × Held (now ents) (now cells) (now crowd) (now occ) (now emp) n o × RoomToLeave (now emp) n) ⌝ }
-    ensures { λ r. ⌜ ((o : Occupancy) → Held (now (ents .entry)) (now (cells .entry)) (now (crowd .entry)) (now (occ .entry)) (now (emp .entry)) n o → Held (now (ents .exit)) (now (cells .exit)) (now (crowd .exit)) (now (occ .exit)) (now (emp .exit)) r (removalOf e o)) ⌝ }
+    requires { ⌜ ((o : Occupancy) × Held kind (now ents) (now cells) (now crowd) (now occ) (now emp) n o × RoomToLeave (now emp) n) ⌝ }
+    ensures { λ r. ⌜ ((o : Occupancy) → Held kind (now (ents .entry)) (now (cells .entry)) (now (crowd .entry)) (now (occ .entry)) (now (emp .entry)) n o → Held kind (now (ents .exit)) (now (cells .exit)) (now (crowd .exit)) (now (occ .exit)) (now (emp .exit)) r (removalOf kind e o)) ⌝ }
 {
     let s = stand_of(ents, n.entities, e);
     match s {
-        Stand::Inside(d) => remove(ents, cells, crowd, occ, emp, n, e, d),
+        Stand::Inside(d) => remove(ents, cells, crowd, occ, emp, n, kind, e, d),
         Stand::Nowhere => n,
     }
 }
@@ -353,11 +382,12 @@ pub fn play_move(
     occ: &mut [u64],
     emp: &mut [u64],
     n: Counts,
+    kind: u64,
     e: u64,
     c: Cell,
 ) -> Counts
-    requires { ⌜ ((o : Occupancy) × Held (now ents) (now cells) (now crowd) (now occ) (now emp) n o × (cellInRange c ≡ true) × RoomToEnter (now ents) (now cells) (now crowd) (now occ) n × RoomToLeave (now emp) n) ⌝ }
-    ensures { λ r. ⌜ ((o : Occupancy) → Held (now (ents .entry)) (now (cells .entry)) (now (crowd .entry)) (now (occ .entry)) (now (emp .entry)) n o → Held (now (ents .exit)) (now (cells .exit)) (now (crowd .exit)) (now (occ .exit)) (now (emp .exit)) r (moveOf e c o)) ⌝ }
+    requires { ⌜ ((o : Occupancy) × Held kind (now ents) (now cells) (now crowd) (now occ) (now emp) n o × (cellInRange c ≡ true) × RoomToEnter (now ents) (now cells) (now crowd) (now occ) n × RoomToLeave (now emp) n) ⌝ }
+    ensures { λ r. ⌜ ((o : Occupancy) → Held kind (now (ents .entry)) (now (cells .entry)) (now (crowd .entry)) (now (occ .entry)) (now (emp .entry)) n o → Held kind (now (ents .exit)) (now (cells .exit)) (now (crowd .exit)) (now (occ .exit)) (now (emp .exit)) r (moveOf kind e c o)) ⌝ }
 {
     let s = stand_of(ents, n.entities, e);
     match s {
@@ -365,9 +395,9 @@ pub fn play_move(
             if component::same_cell(c, d) {
                 return n;
             }
-            relocate(ents, cells, crowd, occ, emp, n, e, d, c)
+            relocate(ents, cells, crowd, occ, emp, n, kind, e, d, c)
         }
-        Stand::Nowhere => insert(ents, cells, crowd, occ, emp, n, e, c),
+        Stand::Nowhere => insert(ents, cells, crowd, occ, emp, n, kind, e, c),
     }
 }
 

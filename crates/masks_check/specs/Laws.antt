@@ -8,11 +8,9 @@ use mathlib.Core.List.{List, [], _∷_, _++_}
 use lib.ListN.{length, take, getD}
 use lib.Seq.{take-suc, take-all}
 use borrow.Author.Tests.{eq-eqb, ne-eqb}
-use Rattle.component.specs.Touch.{touches}
 use Rattle.model.specs.Lists.{keys}
-use Rattle.model.specs.Cells.{Cell, all26, touch26}
+use Rattle.model.specs.Cells.{Cell, offsetsOf, touchAt}
 use Rattle.model.specs.Masks.{withBit, maskOf}
-use Rattle.model.specs.Laws.Touching.{touch26-touches}
 use Rattle.model.specs.Places.{slot, placeIn}
 use Rattle.model.specs.Laws.Slots.{slot-low, slot-high, mask-end, mask-none}
 use Rattle.table.specs.Rows.{cell, cellAt, rowsOf, table4}
@@ -24,7 +22,12 @@ use Rattle.points_check.specs.Lines.{Lines}
 use Rattle.points_check.specs.Laws.Lines.{lines-as, lines-at, lines-each}
 use Rattle.points_check.specs.Laws.Readings.{key-lines, row-lines}
 
-module _ (m : ℕ) (s : List ℕ) (c : Cell) where
+-- The mask with one cell more at the end.
+mask-more : (kind : ℕ) (l : List Cell) (d c : Cell) → maskOf (touchAt kind) (l ++ (d ∷ [])) c ≡ cond (touchAt kind c d) (withBit (maskOf (touchAt kind) l c) (slot c d)) (maskOf (touchAt kind) l c)
+unfolding touchAt
+mask-more kind l d c = mask-end (offsetsOf kind) l d c
+
+module _ (kind m : ℕ) (s : List ℕ) (c : Cell) where
   abbrev k : List Cell
   k = keys (table4 cellWidth m s)
 
@@ -32,8 +35,9 @@ module _ (m : ℕ) (s : List ℕ) (c : Cell) where
   lines = key-lines cellWidth m s (omega arith)
 
   -- Before any row.
-  pub scan-none : 0 ≡ maskOf touch26 (take 0 (keys (table4 cellWidth m s))) c
-  scan-none = mask-none all26 c
+  pub scan-none : 0 ≡ maskOf (touchAt kind) (take 0 (keys (table4 cellWidth m s))) c
+  unfolding touchAt
+  scan-none = mask-none (offsetsOf kind) c
 
   module _ (i : ℕ) (h : i < m) where
     more : take (i + 1) k ≡ take i k ++ (cellAt s (cellWidth * i) ∷ [])
@@ -41,23 +45,22 @@ module _ (m : ℕ) (s : List ℕ) (c : Cell) where
         let g : length k ≡ m = lines .len in
         ap (λ (n : ℕ). take n k) (add-one i) ∙ take-suc k i (cellAt s 0) (omega arith) ∙ ap (λ x. take i k ++ (x ∷ [])) (lines-at lines i h (cellAt s 0))
 
-    next : (b : ℕ) → b ≡ maskOf touch26 (take i k) c → (t : Bool) → touches c (cellAt s (cellWidth * i)) ≡ t → cond t (withBit b (slot c (cellAt s (cellWidth * i)))) b ≡ maskOf touch26 (take (i + 1) k) c
+    next : (b : ℕ) → b ≡ maskOf (touchAt kind) (take i k) c → (t : Bool) → touchAt kind c (cellAt s (cellWidth * i)) ≡ t → cond t (withBit b (slot c (cellAt s (cellWidth * i)))) b ≡ maskOf (touchAt kind) (take (i + 1) k) c
     next b e t f =
         (λ j. cond (sym f j) (withBit (e j) (slot c (cellAt s (cellWidth * i)))) (e j))
-        ∙ ap (λ (q : Bool). cond q (withBit (maskOf touch26 (take i k) c) (slot c (cellAt s (cellWidth * i)))) (maskOf touch26 (take i k) c)) (sym (touch26-touches c (cellAt s (cellWidth * i))))
-        ∙ sym (ap (λ (l : List Cell). maskOf touch26 l c) more ∙ mask-end all26 (take i k) (cellAt s (cellWidth * i)) c)
+        ∙ sym (ap (λ (l : List Cell). maskOf (touchAt kind) l c) more ∙ mask-more kind (take i k) (cellAt s (cellWidth * i)) c)
 
     -- One row more, which touches.
-    pub scan-yes : (b : ℕ) → b ≡ maskOf touch26 (take i (keys (table4 cellWidth m s))) c → touches c (cellAt s (cellWidth * i)) ≡ true → (r : ℕ) → r ≡ withBit b (slot c (cellAt s (cellWidth * i))) → r ≡ maskOf touch26 (take (i + 1) (keys (table4 cellWidth m s))) c
+    pub scan-yes : (b : ℕ) → b ≡ maskOf (touchAt kind) (take i (keys (table4 cellWidth m s))) c → touchAt kind c (cellAt s (cellWidth * i)) ≡ true → (r : ℕ) → r ≡ withBit b (slot c (cellAt s (cellWidth * i))) → r ≡ maskOf (touchAt kind) (take (i + 1) (keys (table4 cellWidth m s))) c
     scan-yes b e f r q = q ∙ next b e true f
 
     -- One row more, which does not.
-    pub scan-no : (b : ℕ) → b ≡ maskOf touch26 (take i (keys (table4 cellWidth m s))) c → touches c (cellAt s (cellWidth * i)) ≡ false → b ≡ maskOf touch26 (take (i + 1) (keys (table4 cellWidth m s))) c
+    pub scan-no : (b : ℕ) → b ≡ maskOf (touchAt kind) (take i (keys (table4 cellWidth m s))) c → touchAt kind c (cellAt s (cellWidth * i)) ≡ false → b ≡ maskOf (touchAt kind) (take (i + 1) (keys (table4 cellWidth m s))) c
     scan-no b e f = next b e false f
 
   -- After all rows.
-  pub scan-end : (i b : ℕ) → m ≤ i → b ≡ maskOf touch26 (take i (keys (table4 cellWidth m s))) c → b ≡ maskOf touch26 (keys (table4 cellWidth m s)) c
-  scan-end i b h e = let g : length k ≡ m = lines .len in e ∙ ap (λ (l : List Cell). maskOf touch26 l c) (take-all i k (omega arith))
+  pub scan-end : (i b : ℕ) → m ≤ i → b ≡ maskOf (touchAt kind) (take i (keys (table4 cellWidth m s))) c → b ≡ maskOf (touchAt kind) (keys (table4 cellWidth m s)) c
+  scan-end i b h e = let g : length k ≡ m = lines .len in e ∙ ap (λ (l : List Cell). maskOf (touchAt kind) l c) (take-all i k (omega arith))
 
 -- The occupied cells with their masks, row by row.
 pub mask-lines : (m : ℕ) (s : List ℕ) → Lines (cellsIn m s) m (λ i. (cellAt s (cellWidth * i), getD s (cellWidth * i + cellMask) 0))
@@ -85,9 +88,9 @@ module _ (c d : Cell) (z y x : ℕ) (ez : z ≡ d .z + 1 - c .z) (ey : y ≡ d .
   slot-big h = ap (λ (n : ℕ). n - 1) place-is ∙ sym (slot-high (placeIn c d) (subst (λ (n : ℕ). 13 ≤ n) place-is h))
 
 -- One row.
-module _ (l : List Cell) (c e : Cell) (w r : ℕ) (f : c ≡ e) (q : r ≡ maskOf touch26 l c) where
-  pub row-yes : w ≡ r → rowRight l (e, w) ≡ true
-  row-yes h = eq-eqb w (maskOf touch26 l e) (h ∙ q ∙ ap (maskOf touch26 l) f)
+module _ (kind : ℕ) (l : List Cell) (c e : Cell) (w r : ℕ) (f : c ≡ e) (q : r ≡ maskOf (touchAt kind) l c) where
+  pub row-yes : w ≡ r → rowRight kind l (e, w) ≡ true
+  row-yes h = eq-eqb w (maskOf (touchAt kind) l e) (h ∙ q ∙ ap (maskOf (touchAt kind) l) f)
 
-  pub row-no : (w ≡ r → ⊥) → rowRight l (e, w) ≡ false
-  row-no n = ne-eqb w (maskOf touch26 l e) (λ h. n (h ∙ sym (q ∙ ap (maskOf touch26 l) f)))
+  pub row-no : (w ≡ r → ⊥) → rowRight kind l (e, w) ≡ false
+  row-no n = ne-eqb w (maskOf (touchAt kind) l e) (λ h. n (h ∙ sym (q ∙ ap (maskOf (touchAt kind) l) f)))

@@ -1,5 +1,6 @@
-// Whether each mask has exactly the bits of touching occupied cells.
+// Whether each mask has exactly the bits of the occupied cells that touch at a kind.
 use component::Cell;
+use kinds::touching_at;
 use layout::CELL_MASK;
 use layout::CELL_WIDTH;
 use table::cell_at;
@@ -9,7 +10,7 @@ ghost use Prim.Native.Nat.{_+_, _-_, _*_, _≤_};
 ghost use lib.ListN.{length};
 ghost use Rattle.component.specs.Touch.{touches};
 ghost use Rattle.model.specs.Lists.{all, keys};
-ghost use Rattle.model.specs.Cells.{touch26};
+ghost use Rattle.model.specs.Cells.{touchAt};
 ghost use Rattle.model.specs.Masks.{maskOf};
 ghost use Rattle.model.specs.Places.{slot};
 ghost use Rattle.table.specs.Rows.{table4, isTable4};
@@ -46,16 +47,16 @@ fn slot_of(c: Cell, d: Cell) -> u64
     p - 1
 }
 
-// The mask of c among the cells of m rows, by a look at each of them, whatever its coordinates.
-fn scanned(cells: &[u64], m: usize, c: Cell) -> u64
+// The mask of c at the kind among the cells of m rows, by a look at each of them, whatever its coordinates.
+fn scanned(kind: u64, cells: &[u64], m: usize, c: Cell) -> u64
     requires { ⌜ cellWidth * m ≤ length (now cells) ⌝ }
-    ensures { λ r. ⌜ r ≡ maskOf touch26 (keys (table4 cellWidth m (now (cells .entry)))) c ⌝ }
+    ensures { λ r. ⌜ r ≡ maskOf (touchAt kind) (keys (table4 cellWidth m (now (cells .entry)))) c ⌝ }
 {
     let mut bits = 0;
     let mut i = 0;
     while i < m {
         let d = cell_at(cells, CELL_WIDTH * i);
-        if component::touching(c, d) {
+        if touching_at(kind, c, d) {
             bits = mask::set(bits, slot_of(c, d));
             i += 1;
         } else {
@@ -65,26 +66,26 @@ fn scanned(cells: &[u64], m: usize, c: Cell) -> u64
     bits
 }
 
-// The mask of c among the cells of m rows.
-fn mask_of(cells: &[u64], m: usize, c: Cell) -> u64
+// The mask of c at the kind among the cells of m rows.
+fn mask_of(kind: u64, cells: &[u64], m: usize, c: Cell) -> u64
     requires { ⌜ isTable4 cellWidth m (now cells) ≡ true ⌝ }
-    ensures { λ r. ⌜ r ≡ maskOf touch26 (keys (table4 cellWidth m (now (cells .entry)))) c ⌝ }
+    ensures { λ r. ⌜ r ≡ maskOf (touchAt kind) (keys (table4 cellWidth m (now (cells .entry)))) c ⌝ }
 {
     if component::has_room(c, 1) {
-        return map::note(cells, m, c);
+        return map::note(cells, m, kind, c);
     }
-    scanned(cells, m, c)
+    scanned(kind, cells, m, c)
 }
 
-// Whether the mask of each of m rows is right.
-pub fn masks_right(cells: &[u64], m: usize) -> bool
+// Whether the mask of each of m rows is right at the kind.
+pub fn masks_right(kind: u64, cells: &[u64], m: usize) -> bool
     requires { ⌜ isTable4 cellWidth m (now cells) ≡ true ⌝ }
-    ensures { λ r. ⌜ r ≡ all (rowRight (keys (table4 cellWidth m (now (cells .entry))))) (cellsIn m (now (cells .entry))) ⌝ }
+    ensures { λ r. ⌜ r ≡ all (rowRight kind (keys (table4 cellWidth m (now (cells .entry))))) (cellsIn m (now (cells .entry))) ⌝ }
 {
     let mut i = 0;
     while i < m {
         let c = cell_at(cells, CELL_WIDTH * i);
-        if cells[CELL_WIDTH * i + CELL_MASK] != mask_of(cells, m, c) {
+        if cells[CELL_WIDTH * i + CELL_MASK] != mask_of(kind, cells, m, c) {
             return false;
         }
         i += 1;

@@ -5,14 +5,16 @@ use mathlib.Core.List.{List, [], _∷_, _++_}
 use mathlib.Core.Option.{Option, none, some}
 use lib.Dec.{eqb}
 use Rattle.model.specs.Lists.{all, equal, run}
-use Rattle.model.specs.Cells.{Cell, bias, same, touch26}
+use Rattle.model.specs.Cells.{Cell, bias, same}
 use Rattle.model.specs.Occupancy.{Batch}
-use Rattle.model.specs.Flood.{Depth, flood}
+use Rattle.model.specs.Flood.{Depth}
 use Rattle.model.specs.Groups.{Group, Corner}
 use Rattle.model.specs.Update.{State, fresh, update}
-use Rattle.model.specs.Questions.{groupBy}
+use Rattle.model.specs.Questions.{groupBy, floodOf}
 use Rattle.model.specs.Consistent.{sameCorner}
 pub mod Paper
+pub mod Kinds
+pub mod Choices
 pub mod Slips
 pub mod KeptOut
 pub mod Rows
@@ -40,12 +42,12 @@ pub record Played : Type 0 where
 -- One batch more.
 abbrev pub playOne : Played → Batch → Played
 playOne p b =
-    let r : ℕ × State = update touch26 (p .state) b in
+    let r : ℕ × State = update (p .state) b in
     record { numbers = p .numbers ++ (r .0 ∷ []); state = r .1 }
 
--- All batches of a case from a fresh state with first id 0.
-abbrev pub played : List Batch → Played
-played = run playOne (record { numbers = []; state = fresh 0 })
+-- All batches of a case from a fresh state of a kind with first id 0.
+abbrev pub played : ℕ → List Batch → Played
+played kind = run playOne (record { numbers = []; state = fresh 0 kind })
 
 -- Whether a group has these corners.
 abbrev pub hasCorners : Option Group → Corner → Corner → Bool
@@ -68,13 +70,17 @@ sees p (ids l) = equal sameRow (p .state .groups .ids) l
 sees p (corners g low high) = hasCorners (groupBy (p .state) g) low high
 sees p (noGroup g) = isNone (groupBy (p .state) g)
 sees p (nets f e) = equal same (p .state .occupancy .newlyOccupied) f && equal same (p .state .occupancy .newlyEmptied) e
-sees p (floods c d l) = equal same ((flood touch26 (p .state .occupancy) c d 1024) .cells) l
+sees p (floods c d l) = equal same ((floodOf (p .state) c d 1024) .cells) l
 
--- Whether a case goes as written.
-abbrev pub holds : Case → Bool
-holds c =
-    let p : Played = played (c .batches) in
+-- Whether a case goes as written where touching is of a kind.
+abbrev pub holdsAt : ℕ → Case → Bool
+holdsAt kind c =
+    let p : Played = played kind (c .batches) in
     all (sees p) (c .seen)
+
+-- Whether it does at 26, as on paper.
+abbrev pub holds : Case → Bool
+holds = holdsAt 26
 
 -- The cell of a grid at x, y, z from zero up.
 abbrev pub cell : ℕ → ℕ → ℕ → ℕ → Cell

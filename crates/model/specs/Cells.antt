@@ -1,9 +1,9 @@
 -- Cells and touching. A coordinate is kept as the number x + 2^31, so cell order is the order of numbers; the cell, its order and
 -- its range are those of the crate `component`.
 use Prim.Native.Nat.{ℕ, suc, _+_, _-_}
-use mathlib.Core.Bool.{Bool, true, _&&_, _||_, not}
+use mathlib.Core.Bool.{Bool, true, cond, _&&_, _||_, not}
 use mathlib.Core.List.{List, [], _∷_, _++_}
-use lib.Dec.{eqb}
+use lib.Dec.{eqb, leb}
 use Rattle.model.specs.Lists.{keep, any, all, each}
 pub use Rattle.component.specs.declared.Cell.{Cell}
 pub use Rattle.component.specs.Order.{same, below}
@@ -43,6 +43,26 @@ Offsets = Offset → Bool
 abbrev pub all26 : Offsets
 all26 o = true
 
+-- On how many axes a step moves.
+abbrev pub axes : Offset → ℕ
+axes o = cond (eqb (o .dx) 1) 0 1 + (cond (eqb (o .dy) 1) 0 1 + cond (eqb (o .dz) 1) 0 1)
+
+-- On how many axes two cells differ.
+abbrev pub apartOn : Cell → Cell → ℕ
+apartOn a b = cond (eqb (a .x) (b .x)) 0 1 + (cond (eqb (a .y) (b .y)) 0 1 + cond (eqb (a .z) (b .z)) 0 1)
+
+-- A kind of touching is 6, 18 or 26.
+abbrev pub isKind : ℕ → Bool
+isKind kind = eqb kind 6 || (eqb kind 18 || eqb kind 26)
+
+-- Whether a step that moves on n axes is of the kind: at 6 on one axis, at 18 on at most two, at 26 on any.
+abbrev pub kindAllows : ℕ → ℕ → Bool
+kindAllows kind n = cond (eqb kind 6) (eqb n 1) (cond (eqb kind 18) (leb n 2) true)
+
+-- The set of a kind.
+abbrev pub offsetsOf : ℕ → Offsets
+offsetsOf kind o = kindAllows kind (axes o)
+
 -- The step the other way on each axis.
 abbrev pub opposite : Offset → Offset
 opposite o = record { dx = 2 - o .dx; dy = 2 - o .dy; dz = 2 - o .dz }
@@ -58,6 +78,10 @@ leads a b o = eqb (a .x + o .dx) (suc (b .x)) && (eqb (a .y + o .dy) (suc (b .y)
 -- Two cells touch if they are of one grid and an offset of the set leads from one to the other.
 abbrev pub touchBy : Offsets → Cell → Cell → Bool
 touchBy s a b = eqb (a .grid) (b .grid) && any (λ o. s o && leads a b o) offsets26
+
+-- Touching of a kind.
+unfoldable pub touchAt : ℕ → Cell → Cell → Bool
+touchAt kind = touchBy (offsetsOf kind)
 
 -- Touching by all 26.
 abbrev pub touch26 : Cell → Cell → Bool

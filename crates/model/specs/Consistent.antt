@@ -1,16 +1,16 @@
--- What consistent means: the eight points of document 01 in its order, and their conjunction. Strictly ascending rows belong to
--- them: entity rows to point 1, cell rows to point 2, group rows to point 5, net lists to point 8.
+-- What consistent means: the stored kind, point 9, then the eight points of document 01 in its order, and their conjunction. Strictly
+-- ascending rows belong to them: entity rows to point 1, cell rows to point 2, group rows to point 5, net lists to point 8.
 use Prim.Native.Nat.{ℕ}
 use mathlib.Core.Bool.{Bool, cond, _&&_, not}
 use mathlib.Core.List.{List}
 use lib.Dec.{eqb, leb, ltb}
 use lib.ListN.{length}
 use Rattle.model.specs.Lists.{all, has, without, equal, ascending, isAscending, keys, values}
-use Rattle.model.specs.Cells.{Cell, same, below, cellInRange}
+use Rattle.model.specs.Cells.{Cell, same, below, cellInRange, isKind}
 use Rattle.model.specs.Masks.{maskOf}
 use Rattle.model.specs.Occupancy.{Occupancy, occupied}
 use Rattle.model.specs.Groups.{Ids, Group, Corner, part, records}
-use Rattle.model.specs.Update.{State, mostEntities, mostCells}
+use Rattle.model.specs.Update.{State, mostEntities, mostCells, touchOf}
 
 -- 1. Entities distinct, they and the occupied cells within number.
 abbrev pub withinNumber : State → Bool
@@ -83,9 +83,9 @@ netsInOrder s =
     && (all (has same (occupied o)) (o .newlyOccupied)
     && all (λ c. not (has same (occupied o) c)) (o .newlyEmptied)))))
 
--- All eight.
-abbrev pub consistent : (Cell → Cell → Bool) → State → Bool
-consistent touch s =
+-- All eight, for any touching.
+abbrev pub consistentBy : (Cell → Cell → Bool) → State → Bool
+consistentBy touch s =
     withinNumber s
     && (cellsExact s
     && (masksExact touch s
@@ -94,3 +94,11 @@ consistent touch s =
     && (idsBelowNext s
     && (coordinatesInRange s
     && netsInOrder s))))))
+
+-- 9. The stored kind is 6, 18 or 26.
+abbrev pub kindKnown : State → Bool
+kindKnown s = isKind (s .kind)
+
+-- Point 9, then the eight with touching as the state has chosen it.
+abbrev pub consistent : State → Bool
+consistent s = kindKnown s && consistentBy (touchOf s) s

@@ -8,7 +8,7 @@ use Rattle.model.specs.Cells.{Cell}
 use Rattle.model.specs.Occupancy.{Event, remove, moveTo, events}
 use Rattle.model.specs.Groups.{Group}
 use Rattle.model.specs.Update.{State}
-use Rattle.model.specs.Runs.{Reached, start, next}
+use Rattle.model.specs.Runs.{ReachedBy, Reached, start, next}
 
 -- The sum of some numbers.
 abbrev pub total : List ℕ → ℕ
@@ -26,6 +26,11 @@ placed l (moveTo e c) = add ltb e l
 
 module _ (touch : Cell → Cell → Bool) where
   -- The entities that a history has placed and not since removed, ascending.
-  abbrev pub placedBy : {s : State} → Reached touch s → List ℕ
-  placedBy (start first) = []
+  abbrev pub placedBy : {s : State} → ReachedBy touch s → List ℕ
+  placedBy (start first kind) = []
   placedBy (next b r e) = run placed (placedBy r) (events b)
+
+-- The same of a history with touching as the fresh state chose it.
+abbrev pub placedOf : {s : State} → Reached s → List ℕ
+placedOf (start first kind t) = []
+placedOf (next b r e) = run placed (placedOf r) (events b)

@@ -9,6 +9,7 @@ pub mod Tables
 pub mod Values
 pub mod Rows
 pub mod Touching
+pub mod Kinds
 pub mod Bits
 pub mod Masks
 pub mod Walks

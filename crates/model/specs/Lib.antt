@@ -6,11 +6,11 @@ pub mod Occupancy
 pub mod Flood
 pub mod Groups
 pub mod Update
+pub mod Shortest
 pub mod Questions
 pub mod Consistent
 pub mod Cases
 pub mod Paths
-pub mod Shortest
 pub mod Runs
 pub mod Counted
 pub mod Crowd

@@ -11,7 +11,9 @@ use Rattle.model.specs.Cells.{Cell, same}
 use Rattle.model.specs.Occupancy.{occupied}
 use Rattle.model.specs.Masks.{touching}
 use Rattle.model.specs.Groups.{Group}
-use Rattle.model.specs.Update.{State}
+use Rattle.model.specs.Flood.{Depth, Flood, flood}
+use Rattle.model.specs.Shortest.{shownPath}
+use Rattle.model.specs.Update.{State, touchOf}
 
 -- A list answer: whether what was asked for was found, and the list.
 pub record Listed (A : Type 0) : Type 0 where
@@ -43,10 +45,20 @@ abbrev pub idList : State → List ℕ
 idList s = keys (s .records)
 
 -- Nearby: the cell, then the touching occupied cells in cell order.
-abbrev pub nearby : (Cell → Cell → Bool) → State → Cell → Listed Cell
-nearby touch s c =
+abbrev pub nearbyBy : (Cell → Cell → Bool) → State → Cell → Listed Cell
+nearbyBy touch s c =
     let found : Bool = has same (occupied (s .occupancy)) c in
     record { found = found; list = cond found (c ∷ touching touch (occupied (s .occupancy)) c) [] }
+
+-- Nearby, the flood and the path, with touching as the state has chosen it.
+abbrev pub nearby : State → Cell → Listed Cell
+nearby s c = nearbyBy (touchOf s) s c
+
+abbrev pub floodOf : State → Cell → Depth → ℕ → Flood
+floodOf s seed depth budget = flood (touchOf s) (s .occupancy) seed depth budget
+
+abbrev pub pathBetween : State → Cell → Cell → Option (List Cell)
+pathBetween s a b = shownPath (touchOf s) (occupied (s .occupancy)) a b
 
 -- The number of ones in a mask, if there is one.
 abbrev pub onesOf : Option ℕ → Option ℕ

@@ -6,17 +6,22 @@ use mathlib.Core.List.{List}
 use mathlib.Core.Option.{Option, none, some}
 use lib.Dec.{T, eqb, ltb}
 use Rattle.model.specs.Lists.{keep, only, change}
-use Rattle.model.specs.Cells.{Cell}
+use Rattle.model.specs.Cells.{Cell, isKind}
 use Rattle.model.specs.Occupancy.{Batch, Passage, leaves, enters, events, startBatch, trace}
 use Rattle.model.specs.Flood.{Depth, flood}
-use Rattle.model.specs.Update.{State, fresh, update}
+use Rattle.model.specs.Update.{State, fresh, touchOf, updateBy, update}
 use Rattle.model.specs.Questions.{idOf, groupBy}
 
 module _ (touch : Cell → Cell → Bool) where
-  -- A state that a history from a fresh state leads to, each batch accepted.
-  pub data Reached : State → Type 0 where
-    start : (first : ℕ) → Reached (fresh first)
-    next : {s : State} (b : Batch) → Reached s → update touch s b .0 ≡ 0 → Reached (update touch s b .1)
+  -- A state that a history from a fresh state leads to, each batch accepted, for any touching.
+  pub data ReachedBy : State → Type 0 where
+    start : (first kind : ℕ) → ReachedBy (fresh first kind)
+    next : {s : State} (b : Batch) → ReachedBy s → updateBy touch s b .0 ≡ 0 → ReachedBy (updateBy touch s b .1)
+
+-- A state that a history from a fresh state leads to, each batch accepted, with touching as the fresh state chose it.
+pub data Reached : State → Type 0 where
+  start : (first kind : ℕ) → T (isKind kind) → Reached (fresh first kind)
+  next : {s : State} (b : Batch) → Reached s → update s b .0 ≡ 0 → Reached (update s b .1)
 
 -- Whether a cell is of the grid.
 abbrev pub onGrid : ℕ → Cell → Bool
@@ -33,10 +38,16 @@ module _ (touch : Cell → Cell → Bool) (grid : ℕ) where
   passagesOn s b = keep (passageOn grid) (trace touch (startBatch (s .occupancy)) (events b))
 
   -- Two runs from fresh states, every batch accepted in both, that agree batch by batch on the grid's enter and leave events.
-  pub data Alike : State → State → Type 0 where
-    start : (first first′ : ℕ) → Alike (fresh first) (fresh first′)
-    next : {s t : State} (b d : Batch) → Alike s t → update touch s b .0 ≡ 0 → update touch t d .0 ≡ 0 →
-        passagesOn s b ≡ passagesOn t d → Alike (update touch s b .1) (update touch t d .1)
+  pub data AlikeBy : State → State → Type 0 where
+    start : (first first′ kind kind′ : ℕ) → AlikeBy (fresh first kind) (fresh first′ kind′)
+    next : {s t : State} (b d : Batch) → AlikeBy s t → updateBy touch s b .0 ≡ 0 → updateBy touch t d .0 ≡ 0 →
+        passagesOn s b ≡ passagesOn t d → AlikeBy (updateBy touch s b .1) (updateBy touch t d .1)
+
+-- The same for two runs with one choice of touching.
+pub data Alike (grid : ℕ) : State → State → Type 0 where
+  start : (first first′ kind : ℕ) → T (isKind kind) → Alike grid (fresh first kind) (fresh first′ kind)
+  next : {s t : State} (b d : Batch) → Alike grid s t → update s b .0 ≡ 0 → update t d .0 ≡ 0 →
+      passagesOn (touchOf s) grid s b ≡ passagesOn (touchOf t) grid t d → Alike grid (update s b .1) (update t d .1)
 
 -- An id that was found, by another name.
 abbrev pub renamed : (ℕ → ℕ) → Option ℕ → Option ℕ

@@ -13,4 +13,5 @@ pub mod Isolation
 pub mod Histories
 pub mod PathExact
 pub mod AskedAlone
+pub mod Kinds
 pub mod EntityCounts

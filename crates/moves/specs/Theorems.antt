@@ -9,6 +9,8 @@ use lib.ListN.{length}
 use lib.Seq.{take-append-seam, drop-append-seam}
 use lib.Ieee.{binary64, fits}
 use Rattle.component.specs.Coord.{coordInRange}
+use Rattle.refusal.specs.declared.Refusal.{Refusal}
+use Rattle.refusal.specs.Forms.{none, tooShort}
 use Rattle.model.specs.Lists.{all, each, gather}
 use Rattle.model.specs.Update.{outOfRange}
 use Rattle.table.specs.Moves.{over}
@@ -24,7 +26,7 @@ use Rattle.moves.specs.Words.{moveWords, moved, moveOf}
 use Rattle.moves.specs.Laws.Words.{move-there, moves-back, moves-in}
 
 -- Any two answers that the promise of `put_move` allows are equal.
-pub put-unique : (s : List ℕ) (at : ℕ) (e : Placing) (p q : ℕ × List ℕ) → p ≡ moved s at e → q ≡ moved s at e → p ≡ q
+pub put-unique : (s : List ℕ) (at : ℕ) (e : Placing) (p q : Refusal × List ℕ) → p ≡ moved s at e → q ≡ moved s at e → p ≡ q
 put-unique s at e p q h k = h ∙ sym k
 
 -- What `event_of` answers is in range.
@@ -39,7 +41,7 @@ allIn es = all (λ (e : Placing). coordInRange (e .cell .coord)) es
 pub put-reads-back : (s : List ℕ) (at : ℕ) (e : Placing) → leb (at + moveWidth) (length s) ≡ true → coordInRange (e .cell .coord) ≡ true → moveAt (moved s at e .1) at ≡ moveOf e
 unfolding moved
 put-reads-back s at e h k =
-    ap (λ (t : Bool). moveAt (cond {A = ℕ × List ℕ} t (0, over s at (moveWords e)) (1, s) .1) at) h
+    ap (λ (t : Bool). moveAt (cond {A = Refusal × List ℕ} t (none, over s at (moveWords e)) (tooShort, s) .1) at) h
     ∙ move-there s at e (leb-true (at + moveWidth) (length s) h) k
 
 -- A batch of removals and of the moves of events is read back as these.

@@ -5,6 +5,8 @@ use mathlib.Core.List.{List, _∷_}
 use lib.Dec.{leb}
 use lib.ListN.{length}
 use Rattle.component.specs.Stored.{stored}
+use Rattle.refusal.specs.declared.Refusal.{Refusal}
+use Rattle.refusal.specs.Forms.{none, tooShort}
 use Rattle.model.specs.Cells.{Cell}
 use Rattle.table.specs.Moves.{over}
 use Rattle.neighbourhood.specs.Answers.{answerWords}
@@ -15,9 +17,9 @@ use Rattle.layout.specs.Widths.{moveWidth}
 abbrev pub moveWords : Placing → List ℕ
 moveWords e = e .entity ∷ answerWords (stored (e .cell))
 
--- They are put at a place of a batch: 0, or 1 and the words as they were where the batch ends before.
-unfoldable pub moved : List ℕ → ℕ → Placing → ℕ × List ℕ
-moved s at e = cond (leb (at + moveWidth) (length s)) (0, over s at (moveWords e)) (1, s)
+-- They are put at a place of a batch; or refused by 1, the words as they were, where the batch ends before.
+unfoldable pub moved : List ℕ → ℕ → Placing → Refusal × List ℕ
+moved s at e = cond (leb (at + moveWidth) (length s)) (none, over s at (moveWords e)) (tooShort, s)
 
 -- The move that an event makes: its entity goes to its cell.
 abbrev pub moveOf : Placing → ℕ × Cell

@@ -10,7 +10,7 @@ use lib.Dec.{T-not, not-T, eqb, eqb→eq}
 use lib.ListN.{length, take, drop, getD, set, length-set, length-append}
 use lib.Seq.{length-take-le, getD-take, drop-set-lt, drop-drop, getD-set-same, getD-set-other}
 use Rattle.model.specs.Lists.{keep, has, each, keys, count}
-use Rattle.model.specs.Cells.{Cell, same, touch26}
+use Rattle.model.specs.Cells.{Cell, same, touchAt}
 use Rattle.model.specs.Masks.{bit, leadsTo}
 use Rattle.model.specs.Groups.{reach, part}
 use Rattle.model.specs.Laws.Tests.{and-fst, and-snd, and-both, same-test, cond-yes, cond-no, eqb-of}
@@ -34,11 +34,11 @@ abbrev pub queued : Front → List ℕ
 queued f = take (f .end) (f .queue)
 
 -- The cells that are reached from a queue among those of `rest`.
-abbrev pub seek : List Cell → List Cell → List Cell
-seek queue rest = reach touch26 (length queue + length rest) queue rest
+abbrev pub seek : ℕ → List Cell → List Cell → List Cell
+seek kind queue rest = reach (touchAt kind) (length queue + length rest) queue rest
 
 -- How far a flood is: of the rows that are queued the first h are done. The marks and the queue were these once the seed was queued.
-pub record Wave (words : List ℕ) (n seed label step : ℕ) (marks₁ queue₁ : List ℕ) (h : ℕ) (f : Front) : Type 0 where
+pub record Wave (kind : ℕ) (words : List ℕ) (n seed label step : ℕ) (marks₁ queue₁ : List ℕ) (h : ℕ) (f : Front) : Type 0 where
   pub done : List ℕ
   pub waiting : List ℕ
   pub number : length done ≡ h
@@ -46,25 +46,25 @@ pub record Wave (words : List ℕ) (n seed label step : ℕ) (marks₁ queue₁ 
   pub fits : f .end ≤ length (f .queue)
   pub under : (j : ℕ) → Mem j (done ++ waiting) → j < n
   pub once : Once (done ++ waiting)
-  pub walk : each (rowCell words) done ++ seek (each (rowCell words) waiting) (openCells words n (f .marks)) ≡ part touch26 (rowCell words seed) (openCells words n marks₁)
+  pub walk : each (rowCell words) done ++ seek kind (each (rowCell words) waiting) (openCells words n (f .marks)) ≡ part (touchAt kind) (rowCell words seed) (openCells words n marks₁)
   pub spread : Spread (onward words n) seed label step (λ j. getD marks₁ j 0) done waiting (λ j. getD (f .marks) j 0)
   pub behind : drop (f .end) (f .queue) ≡ drop (f .end) queue₁
   pub beyond : drop n (f .marks) ≡ drop n marks₁
   pub marksKept : length (f .marks) ≡ length marks₁
   pub queueKept : length (f .queue) ≡ length queue₁
 
-seek-nil : (rest : List Cell) → seek [] rest ≡ []
-seek-nil rest = go (0 + length rest)
+seek-nil : (kind : ℕ) (rest : List Cell) → seek kind [] rest ≡ []
+seek-nil kind rest = go (0 + length rest)
   where
-    go : (n : ℕ) → reach touch26 n [] rest ≡ []
+    go : (n : ℕ) → reach (touchAt kind) n [] rest ≡ []
     go zero = refl
     go (suc n) = refl
 
-seek-next : (c : Cell) (queue rest : List Cell) → seek (c ∷ queue) rest ≡ c ∷ seek (queue ++ keep (touch26 c) rest) (keep (λ d. not (touch26 c d)) rest)
-seek-next c queue rest =
-    let e : length (c ∷ queue) + length rest ≡ suc (length (queue ++ keep (touch26 c) rest) + length (keep (λ d. not (touch26 c d)) rest)) =
-    omega (arith, length-append queue (keep (touch26 c) rest), keep-length (touch26 c) rest) in
-    λ i. reach touch26 (e i) (c ∷ queue) rest
+seek-next : (kind : ℕ) (c : Cell) (queue rest : List Cell) → seek kind (c ∷ queue) rest ≡ c ∷ seek kind (queue ++ keep (touchAt kind c) rest) (keep (λ d. not (touchAt kind c d)) rest)
+seek-next kind c queue rest =
+    let e : length (c ∷ queue) + length rest ≡ suc (length (queue ++ keep (touchAt kind c) rest) + length (keep (λ d. not (touchAt kind c d)) rest)) =
+    omega (arith, length-append queue (keep (touchAt kind c) rest), keep-length (touchAt kind c) rest) in
+    λ i. reach (touchAt kind) (e i) (c ∷ queue) rest
 
 first-set : (queue : List ℕ) (i : ℕ) → 0 < length queue → take 1 (set queue 0 i) ≡ i ∷ []
 first-set [] i h = absurd (not-suc-le-zero h)
@@ -76,7 +76,10 @@ getD-behind [] x r = refl
 getD-behind (y ∷ l) x r = getD-behind l x r
 
 module _ (words : List ℕ) (n seed label step : ℕ) (marks queue : List ℕ) (a : Floodable words n seed label step marks queue) where
-  abbrev k : Cells words n (a .table)
+  abbrev kind : ℕ
+  kind = a .kind
+
+  abbrev k : Cells kind words n (a .table)
   k = a .cells
 
   abbrev cellsOf : List ℕ → List Cell
@@ -96,10 +99,10 @@ module _ (words : List ℕ) (n seed label step : ℕ) (marks queue : List ℕ) (
   seed-mark = getD-set-same marks seed label 0 (omega (arith, a .seeded, a .marksFit))
 
   -- The flood over the unmarked cells is the part of the seed among those that are unmarked then.
-  flood-is : part touch26 (rowCell words seed) (openCells words n marks₁) ≡ floodFrom (openCells words n marks) (rowCell words seed)
+  flood-is : part (touchAt kind) (rowCell words seed) (openCells words n marks₁) ≡ floodFrom kind (openCells words n marks) (rowCell words seed)
   flood-is =
-      sym (flood-part touch26 (openCells words n marks) (open-once words n (a .table) k marks) (rowCell words seed) (open-in words n marks seed (a .seeded) (a .unmarked))
-      ∙ ap (part touch26 (rowCell words seed)) (open-less words n (a .table) k (same (rowCell words seed)) marks marks₁ less))
+      sym (flood-part (touchAt kind) (openCells words n marks) (open-once words n (a .table) k marks) (rowCell words seed) (open-in words n marks seed (a .seeded) (a .unmarked))
+      ∙ ap (part (touchAt kind) (rowCell words seed)) (open-less words n (a .table) k (same (rowCell words seed)) marks marks₁ less))
     where
       less : (j : ℕ) → j < n → isOpen marks₁ j ≡ (isOpen marks j && not (same (rowCell words seed) (rowCell words j)))
       less j h =
@@ -111,7 +114,7 @@ module _ (words : List ℕ) (n seed label step : ℕ) (marks queue : List ℕ) (
           ∙ eqb→eq (getD marks j 0) 0 (and-fst (isOpen marks j) _ t)))
 
   -- The seed is marked and queued.
-  pub wave-start : Wave words n seed label step marks₁ queue₁ 0 (front 1 marks₁ queue₁)
+  pub wave-start : Wave kind words n seed label step marks₁ queue₁ 0 (front 1 marks₁ queue₁)
   wave-start =
       record {
         done = [];
@@ -122,7 +125,7 @@ module _ (words : List ℕ) (n seed label step : ℕ) (marks queue : List ℕ) (
         under = λ j m. subst (λ i. i < n) (sym (mem-one m)) (a .seeded);
         once = once-cons mem-nil once-nil;
         walk = let e : length (rowCell words seed ∷ []) + length (openCells words n marks₁) ≡ suc (length (openCells words n marks₁)) = omega arith in
-            λ i. reach touch26 (e i) (rowCell words seed ∷ []) (openCells words n marks₁);
+            λ i. reach (touchAt kind) (e i) (rowCell words seed ∷ []) (openCells words n marks₁);
         spread = spread-start (onward words n) seed label step (λ j. getD marks₁ j 0) seed-mark;
         behind = refl;
         beyond = refl;
@@ -130,7 +133,7 @@ module _ (words : List ℕ) (n seed label step : ℕ) (marks queue : List ℕ) (
         queueKept = refl;
       }
 
-  module _ (h : ℕ) (f : Front) (w : Wave words n seed label step marks₁ queue₁ h f) where
+  module _ (h : ℕ) (f : Front) (w : Wave kind words n seed label step marks₁ queue₁ h f) where
     abbrev Q : List ℕ
     Q = w .done ++ w .waiting
 
@@ -164,33 +167,33 @@ module _ (words : List ℕ) (n seed label step : ℕ) (marks queue : List ℕ) (
       all-done : Spread (onward words n) seed label step (λ j. getD marks₁ j 0) (w .done) [] m
       all-done = subst (λ l. Spread (onward words n) seed label step (λ j. getD marks₁ j 0) (w .done) l m) none-waits (w .spread)
 
-      F : cellsOf Q ≡ floodFrom (openCells words n marks) (rowCell words seed)
+      F : cellsOf Q ≡ floodFrom kind (openCells words n marks) (rowCell words seed)
       F =
           each-append (rowCell words) (w .done) (w .waiting)
-          ∙ ap (λ l. cellsOf (w .done) ++ l) (ap cellsOf none-waits ∙ sym (seek-nil (openCells words n (f .marks))) ∙ ap (λ l. seek (cellsOf l) (openCells words n (f .marks))) (sym none-waits))
+          ∙ ap (λ l. cellsOf (w .done) ++ l) (ap cellsOf none-waits ∙ sym (seek-nil kind (openCells words n (f .marks))) ∙ ap (λ l. seek kind (cellsOf l) (openCells words n (f .marks))) (sym none-waits))
           ∙ w .walk
           ∙ flood-is
 
-      all : cellsOf (queued f) ≡ floodFrom (openCells words n marks) (rowCell words seed)
+      all : cellsOf (queued f) ≡ floodFrom kind (openCells words n marks) (rowCell words seed)
       all = ap cellsOf (w .rows) ∙ F
 
-      size : f .end ≡ length (floodFrom (openCells words n marks) (rowCell words seed))
+      size : f .end ≡ length (floodFrom kind (openCells words n marks) (rowCell words seed))
       size = sym long ∙ sym (each-length (rowCell words) Q) ∙ ap length F
 
-      flat : step ≡ 0 → (j : ℕ) → j < n → m j ≡ cond (has same (floodFrom (openCells words n marks) (rowCell words seed)) (rowCell words j)) label (getD marks j 0)
+      flat : step ≡ 0 → (j : ℕ) → j < n → m j ≡ cond (has same (floodFrom kind (openCells words n marks) (rowCell words seed)) (rowCell words j)) label (getD marks j 0)
       flat z j u =
           ⊎-elim
           (λ l. spread-flat (onward words n) seed label step (λ j. getD marks₁ j 0) z (w .done) (w .waiting) m (w .spread) j l
-          ∙ sym (cond-yes (has same (floodFrom (openCells words n marks) (rowCell words seed)) (rowCell words j)) label (getD marks j 0)
+          ∙ sym (cond-yes (has same (floodFrom kind (openCells words n marks) (rowCell words seed)) (rowCell words j)) label (getD marks j 0)
           (has-of cells (subst (λ q. Mem (rowCell words j) q) F (each-in (rowCell words) l)))))
           (λ l. w .spread .kept j l ∙ other j (λ e. l (mem-cast e (w .spread .seeded)))
-          ∙ sym (cond-no (has same (floodFrom (openCells words n marks) (rowCell words seed)) (rowCell words j)) label (getD marks j 0)
-          (hasnt-of cells (rowCell words j) (floodFrom (openCells words n marks) (rowCell words seed))
+          ∙ sym (cond-no (has same (floodFrom kind (openCells words n marks) (rowCell words seed)) (rowCell words j)) label (getD marks j 0)
+          (hasnt-of cells (rowCell words j) (floodFrom kind (openCells words n marks) (rowCell words seed))
           (λ q. let r = each-out (rowCell words) Q (subst (λ c. Mem (rowCell words j) c) (sym F) q) in
           l (mem-cast (row-once words n (a .table) k j (r .0) u (w .under (r .0) (r .1)) (r .2)) (r .1))))))
           (mem-or numbers j Q)
 
-      pub wave-end : Flooded words n seed label step marks queue (f .end) (f .marks) (f .queue)
+      pub wave-end : Flooded kind words n seed label step marks queue (f .end) (f .marks) (f .queue)
       wave-end =
           record {
             number = size;
@@ -289,7 +292,7 @@ module _ (words : List ℕ) (n seed label step : ℕ) (marks queue : List ℕ) (
       wave-there = row-lead words n (a .table) k i wave-row
 
       -- The mask is exact.
-      pub wave-exact : (j : ℕ) → j < 26 → bit (rowMask words i) j ≡ leadsTo touch26 (keys (table4 cellWidth n words)) (rowCell words i) (offsetAt j)
+      pub wave-exact : (j : ℕ) → j < 26 → bit (rowMask words i) j ≡ leadsTo (touchAt kind) (keys (table4 cellWidth n words)) (rowCell words i) (offsetAt j)
       wave-exact = row-bit words n (a .table) k i wave-row
 
       abbrev m′ : ℕ → ℕ
@@ -304,29 +307,29 @@ module _ (words : List ℕ) (n seed label step : ℕ) (marks queue : List ℕ) (
       all-in : (j : ℕ) → Mem j L → m j ≡ 0 → Mem j R
       all-in j l z = keep-in (isOpen (f .marks)) l (eqb-of (m j) 0 z)
 
-      less : (j : ℕ) → j < n → isOpen (g .marks) j ≡ (isOpen (f .marks) j && not (touch26 c (rowCell words j)))
+      less : (j : ℕ) → j < n → isOpen (g .marks) j ≡ (isOpen (f .marks) j && not (touchAt kind c (rowCell words j)))
       less j u =
-          same-test (isOpen (g .marks) j) (isOpen (f .marks) j && not (touch26 c (rowCell words j)))
+          same-test (isOpen (g .marks) j) (isOpen (f .marks) j && not (touchAt kind c (rowCell words j)))
           (λ t. let z : m′ j ≡ 0 = eqb→eq (m′ j) 0 t in
           ⊎-elim (λ r. absurd (let e = R-marked j r in let v = w .spread .high i i-in in a .labelled (omega arith)))
           (λ r. let y : m j ≡ 0 = sym (old j r) ∙ z in
-          and-both (isOpen (f .marks) j) _ (eqb-of (m j) 0 y) (not-T (touch26 c (rowCell words j)) (λ v. r (all-in j (touch-onward words n (a .table) k i j wave-row u v) y))))
+          and-both (isOpen (f .marks) j) _ (eqb-of (m j) 0 y) (not-T (touchAt kind c (rowCell words j)) (λ v. r (all-in j (touch-onward words n (a .table) k i j wave-row u v) y))))
           (mem-or numbers j R))
           (λ t. eqb-of (m′ j) 0
-          (old j (λ r. T-not (touch26 c (rowCell words j)) (and-snd (isOpen (f .marks) j) _ t) (onward-touch words n (a .table) k i j wave-row (keep-out (isOpen (f .marks)) L r .0)))
+          (old j (λ r. T-not (touchAt kind c (rowCell words j)) (and-snd (isOpen (f .marks) j) _ t) (onward-touch words n (a .table) k i j wave-row (keep-out (isOpen (f .marks)) L r .0)))
           ∙ eqb→eq (m j) 0 (and-fst (isOpen (f .marks) j) _ t)))
 
-      turn : seek (c ∷ cellsOf W) (openCells words n (f .marks)) ≡ c ∷ seek (cellsOf (W ++ R)) (openCells words n (g .marks))
+      turn : seek kind (c ∷ cellsOf W) (openCells words n (f .marks)) ≡ c ∷ seek kind (cellsOf (W ++ R)) (openCells words n (g .marks))
       turn =
-          seek-next c (cellsOf W) (openCells words n (f .marks))
-          ∙ (λ d. c ∷ seek ((ap (λ l. cellsOf W ++ l) (open-touching words n (a .table) k i wave-row (f .marks)) ∙ sym (each-append (rowCell words) W R)) d)
-          (open-less words n (a .table) k (touch26 c) (f .marks) (g .marks) less d))
+          seek-next kind c (cellsOf W) (openCells words n (f .marks))
+          ∙ (λ d. c ∷ seek kind ((ap (λ l. cellsOf W ++ l) (open-touching words n (a .table) k i wave-row (f .marks)) ∙ sym (each-append (rowCell words) W R)) d)
+          (open-less words n (a .table) k (touchAt kind c) (f .marks) (g .marks) less d))
 
       more : (w .done ++ (i ∷ [])) ++ (W ++ R) ≡ Q ++ R
       more = queue-more (w .done) W R i ∙ ap (λ l. (w .done ++ l) ++ R) (sym (next .1))
 
       -- The row is done.
-      pub wave-step : Wave words n seed label step marks₁ queue₁ (h + 1) g
+      pub wave-step : Wave kind words n seed label step marks₁ queue₁ (h + 1) g
       wave-step =
           record {
             done = w .done ++ (i ∷ []);
@@ -337,9 +340,9 @@ module _ (words : List ℕ) (n seed label step : ℕ) (marks queue : List ℕ) (
             under = λ j q. ⊎-elim (w .under j) (R-under j) (append-cases Q (subst (λ l. Mem j l) more q));
             once = subst Once (sym more) more-once;
             walk =
-                ap (λ l. l ++ seek (cellsOf (W ++ R)) (openCells words n (g .marks))) (each-append (rowCell words) (w .done) (i ∷ []))
-                ∙ append-assoc (cellsOf (w .done)) (c ∷ []) (seek (cellsOf (W ++ R)) (openCells words n (g .marks)))
-                ∙ ap (λ l. cellsOf (w .done) ++ l) (sym turn ∙ ap (λ l. seek (cellsOf l) (openCells words n (f .marks))) (sym (next .1)))
+                ap (λ l. l ++ seek kind (cellsOf (W ++ R)) (openCells words n (g .marks))) (each-append (rowCell words) (w .done) (i ∷ []))
+                ∙ append-assoc (cellsOf (w .done)) (c ∷ []) (seek kind (cellsOf (W ++ R)) (openCells words n (g .marks)))
+                ∙ ap (λ l. cellsOf (w .done) ++ l) (sym turn ∙ ap (λ l. seek kind (cellsOf l) (openCells words n (f .marks))) (sym (next .1)))
                 ∙ w .walk;
             spread =
                 spread-step (onward words n) seed label step (λ j. getD marks₁ j 0) (w .done) W R i m m′ (a .labelled)

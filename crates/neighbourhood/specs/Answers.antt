@@ -5,7 +5,7 @@ use mathlib.Core.List.{List, [], _∷_}
 use lib.ListN.{length, take, getD}
 use Rattle.component.specs.Stored.{signedWord}
 use Rattle.model.specs.Lists.{gather, each, keys}
-use Rattle.model.specs.Cells.{Cell, touch26}
+use Rattle.model.specs.Cells.{Cell, touchAt}
 use Rattle.model.specs.Masks.{touching}
 use Rattle.table.specs.Moves.{over}
 use Rattle.layout.specs.Widths.{answerWidth, cellWidth}
@@ -22,15 +22,16 @@ filled s l = over s 0 (gather answerWords l)
 
 -- What the answer of a cell and its touching ones asks: a row that is there, and space.
 pub record NearbyAsked (words : List ℕ) (n row : ℕ) (answer : List ℕ) : Type 0 where
+  pub kind : ℕ
   pub table : List (Cell × ℕ)
-  pub cells : Cells words n table
+  pub cells : Cells kind words n table
   pub there : row < n
-  pub space : answerWidth * suc (length (touching touch26 (keys table) (rowCell words row))) ≤ length answer
+  pub space : answerWidth * suc (length (touching (touchAt kind) (keys table) (rowCell words row))) ≤ length answer
 
 -- The cell of a row and the touching ones are written, and the answer is their number.
-pub record Nearby (words : List ℕ) (row : ℕ) (answer : List ℕ) (r : ℕ) (answer′ : List ℕ) (t : List (Cell × ℕ)) : Type 0 where
-  pub number : r ≡ suc (length (touching touch26 (keys t) (rowCell words row)))
-  pub written : answer′ ≡ filled answer (rowCell words row ∷ touching touch26 (keys t) (rowCell words row))
+pub record Nearby (kind : ℕ) (words : List ℕ) (row : ℕ) (answer : List ℕ) (r : ℕ) (answer′ : List ℕ) (t : List (Cell × ℕ)) : Type 0 where
+  pub number : r ≡ suc (length (touching (touchAt kind) (keys t) (rowCell words row)))
+  pub written : answer′ ≡ filled answer (rowCell words row ∷ touching (touchAt kind) (keys t) (rowCell words row))
 
 -- The first count of some rows are there.
 pub record Queued (words : List ℕ) (n : ℕ) (rows : List ℕ) (count : ℕ) : Type 0 where

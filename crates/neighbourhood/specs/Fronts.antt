@@ -6,7 +6,7 @@ use mathlib.Core.List.{List}
 use lib.Dec.{eqb}
 use lib.ListN.{length, getD, set}
 use Rattle.model.specs.Lists.{run, keys}
-use Rattle.model.specs.Cells.{touch26}
+use Rattle.model.specs.Cells.{touchAt}
 use Rattle.model.specs.Masks.{bit, leadsTo}
 use Rattle.model.specs.Places.{offsetAt}
 use Rattle.table.specs.Rows.{isTable4, table4}
@@ -39,9 +39,10 @@ pushed label f l = run (push label) f l
 -- What following the mask of row i asks: the words are a table's, the mask is exact, the row and those that it leads to are there, and the
 -- queue has space.
 pub record Followable (words : List ℕ) (n i label : ℕ) (f : Front) : Type 0 where
+  pub kind : ℕ
   pub table : isTable4 cellWidth n words ≡ true
   pub row : i < n
-  pub exact : (k : ℕ) → k < 26 → bit (rowMask words i) k ≡ leadsTo touch26 (keys (table4 cellWidth n words)) (rowCell words i) (offsetAt k)
+  pub exact : (k : ℕ) → k < 26 → bit (rowMask words i) k ≡ leadsTo (touchAt kind) (keys (table4 cellWidth n words)) (rowCell words i) (offsetAt k)
   pub there : (k : ℕ) → k < 26 → bit (rowMask words i) k ≡ true → rowFor words n (rowNear words i k) < n
   pub fits : n ≤ length (f .marks)
   pub space : pushed label f (onward words n i) .end ≤ length (f .queue)

@@ -12,10 +12,9 @@ ghost use mathlib.Core.Bool.{true};
 ghost use mathlib.Core.List.{List, _++_};
 ghost use Prim.Native.Nat.{ℕ, _+_, _-_, _*_, _≤_, _<_};
 ghost use lib.ListN.{length, take, drop};
-ghost use Rattle.component.specs.Around.{stepN};
 ghost use Rattle.component.specs.Stored.{biased};
 ghost use Rattle.model.specs.Lists.{keep, keys, gather};
-ghost use Rattle.model.specs.Cells.{Cell as CellOf, touch26, shift};
+ghost use Rattle.model.specs.Cells.{Cell as CellOf, touchAt, shift};
 ghost use Rattle.model.specs.Masks.{leadsTo};
 ghost use Rattle.model.specs.Places.{offsetAt};
 ghost use Rattle.model.specs.Flood.{nearOn, withinDepth};
@@ -36,14 +35,6 @@ fn row_of(cells: &[u64], n: usize, c: Cell, near: usize) -> usize
     index(find4_near(cells, CELL_WIDTH, n, c, near))
 }
 
-// The place in the block of 27 that bit k of a mask tells of: the centre is left out.
-fn block_place(k: u64) -> u64
-    requires { ⌜ k < 26 ⌝ }
-    ensures { λ r. ⌜ r ≡ stepN 13 k ⌝ }
-{
-    if k < 13 { k } else { k + 1 }
-}
-
 // n after the step d on an axis: one down for 0, the same for 1, one up for 2.
 fn axis_to(n: u64, d: u64) -> u64
     requires { ⌜ (0 < n + d) × (n + d ≤ 18446744073709551616) ⌝ }
@@ -52,12 +43,12 @@ fn axis_to(n: u64, d: u64) -> u64
     if d == 0 { n - 1 } else { n + (d - 1) }
 }
 
-// The cell that bit k of a mask of c tells of.
+// The cell that bit k of a mask of c tells of, whose place in the block of 27 leaves out the centre.
 fn near_of(c: Cell, k: u64) -> Cell
     requires { ⌜ (k < 26) × Lands c (offsetAt k) ⌝ }
     ensures { λ r. ⌜ r ≡ shift c (offsetAt k) ⌝ }
 {
-    let j = block_place(k);
+    let j = component::step(k, 13);
     Cell {
         grid: c.grid,
         z: axis_to(c.z, j / 3 / 3),
@@ -68,7 +59,7 @@ fn near_of(c: Cell, k: u64) -> Cell
 
 // The occupied cell that bit k of the mask of row i tells of.
 fn near_cell(cells: &[u64], n: usize, i: usize, k: u64) -> Cell
-    requires { ⌜ (cellWidth * n ≤ length (now cells)) × (i < n) × (k < 26) × (leadsTo touch26 (keys (table4 cellWidth n (now cells))) (rowCell (now cells) i) (offsetAt k) ≡ true) ⌝ }
+    requires { ⌜ (cellWidth * n ≤ length (now cells)) × (i < n) × (k < 26) × ((kind : ℕ) × (leadsTo (touchAt kind) (keys (table4 cellWidth n (now cells))) (rowCell (now cells) i) (offsetAt k) ≡ true)) ⌝ }
     ensures { λ r. ⌜ r ≡ rowNear (now (cells .entry)) i k ⌝ }
 {
     near_of(table::cell_at(cells, CELL_WIDTH * i), k)
@@ -76,7 +67,7 @@ fn near_cell(cells: &[u64], n: usize, i: usize, k: u64) -> Cell
 
 // The row of that cell, looked for from a row that may be any.
 pub fn next_row(cells: &[u64], n: usize, i: usize, k: u64, near: usize) -> usize
-    requires { ⌜ (isTable4 cellWidth n (now cells) ≡ true) × (i < n) × (k < 26) × (leadsTo touch26 (keys (table4 cellWidth n (now cells))) (rowCell (now cells) i) (offsetAt k) ≡ true) ⌝ }
+    requires { ⌜ (isTable4 cellWidth n (now cells) ≡ true) × (i < n) × (k < 26) × ((kind : ℕ) × (leadsTo (touchAt kind) (keys (table4 cellWidth n (now cells))) (rowCell (now cells) i) (offsetAt k) ≡ true)) ⌝ }
     ensures { λ r. ⌜ r ≡ rowFor (now (cells .entry)) n (rowNear (now (cells .entry)) i k) ⌝ }
 {
     row_of(cells, n, near_cell(cells, n, i, k), near)
@@ -130,7 +121,7 @@ pub fn flood_rows(
     queue: &mut [u64],
 ) -> usize
     requires { ⌜ Floodable (now cells) n seed label step (now marks) (now queue) ⌝ }
-    ensures { λ r. ⌜ Flooded (now (cells .entry)) n seed label step (now (marks .entry)) (now (queue .entry)) r (now (marks .exit)) (now (queue .exit)) ⌝ }
+    ensures { λ r. ⌜ ((kind : ℕ) (t : List (CellOf × ℕ)) → Cells kind (now (cells .entry)) n t → Flooded kind (now (cells .entry)) n seed label step (now (marks .entry)) (now (queue .entry)) r (now (marks .exit)) (now (queue .exit))) ⌝ }
 {
     marks[seed] = label;
     queue[0] = seed as u64;
@@ -157,7 +148,7 @@ pub fn write_cell(answer: &mut [u64], at: usize, c: Cell)
 // The cell of a row and then the occupied cells that it touches, in cell order, are written; the answer is how many.
 pub fn nearby_into(cells: &[u64], n: usize, row: usize, answer: &mut [u64]) -> usize
     requires { ⌜ NearbyAsked (now cells) n row (now answer) ⌝ }
-    ensures { λ r. ⌜ ((t : List (CellOf × ℕ)) → Cells (now (cells .entry)) n t → Nearby (now (cells .entry)) row (now (answer .entry)) r (now (answer .exit)) t) ⌝ }
+    ensures { λ r. ⌜ ((kind : ℕ) (t : List (CellOf × ℕ)) → Cells kind (now (cells .entry)) n t → Nearby kind (now (cells .entry)) row (now (answer .entry)) r (now (answer .exit)) t) ⌝ }
 {
     let m = cells[CELL_WIDTH * row + CELL_MASK];
     write_cell(answer, 0, table::cell_at(cells, CELL_WIDTH * row));

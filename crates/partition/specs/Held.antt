@@ -6,8 +6,8 @@ use mathlib.Core.Bool.{not}
 use mathlib.Core.Option.{Option, none, some}
 use lib.Dec.{T, ltb}
 use lib.ListN.{length, getD, take, drop}
-use Rattle.model.specs.Lists.{each, gather, count, keys, get, put, has, only}
-use Rattle.model.specs.Cells.{Cell, same, below, cellInRange}
+use Rattle.model.specs.Lists.{each, keep, gather, count, keys, get, put, has, only}
+use Rattle.model.specs.Cells.{Cell, same, below, cellInRange, touchAt}
 use Rattle.model.specs.Groups.{Ids, Groups, Group, cornerAt, lower, higher, largestGroup, merge}
 use Rattle.model.specs.Crowd.{howMany}
 use Rattle.model.specs.Laws.Sorted.{Asc}
@@ -78,9 +78,9 @@ grownWords s at c m =
     getD s at 0 ∷ getD s (at + groupGrid) 0 ∷ (getD s (at + groupCells) 0 + 1) ∷ (getD s (at + groupEntities) 0 + m)
     ∷ low .x ∷ low .y ∷ low .z ∷ high .x ∷ high .y ∷ high .z ∷ []
 
--- The first k neighbours of a cell.
-unfoldable pub tried : Cell → ℕ → List Cell
-tried c k = each (neighbourOf c) (count 1 k)
+-- Those of the first k neighbours of a cell that touch it at the kind.
+unfoldable pub tried : ℕ → Cell → ℕ → List Cell
+tried kind c k = keep (touchAt kind c) (each (neighbourOf c) (count 1 k))
 
 -- An id that is there, as a list.
 abbrev pub listOf : Option ℕ → List ℕ

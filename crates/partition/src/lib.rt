@@ -1,5 +1,6 @@
 // Groups of touching cells: the cells that have an id, row by row in lent words, and the rules that keep them.
 use component::Cell;
+use kinds::has_offset;
 use layout::CELL_ID;
 use layout::GROUP_CELLS;
 use layout::GROUP_ENTITIES;
@@ -27,7 +28,7 @@ ghost use lib.ListN.{length, getD, take, drop, replicate};
 ghost use Rattle.table.specs.Moves.{over};
 ghost use lib.Dec.{T, ltb, eqb};
 ghost use Rattle.model.specs.Lists.{all, has, get, put, run};
-ghost use Rattle.model.specs.Cells.{Cell, below, cellInRange, touch26};
+ghost use Rattle.model.specs.Cells.{Cell, below, cellInRange, touchAt};
 ghost use Rattle.model.specs.Groups.{Ids, Groups, Group, size, largestGroup, merge, foundAt, rule1, rule2, records};
 ghost use Rattle.layout.specs.Rows.{idsIn};
 ghost use Rattle.layout.specs.Widths.{idWidth, netWidth, groupWidth, groupCells, groupEntities};
@@ -107,26 +108,30 @@ pub fn build_records(ids: &[u64], n: usize, counts: &[u64], groups: &mut [u64]) 
     k
 }
 
-// The ids at the neighbours of c, in order; the answer is their number.
-pub fn found_at(ids: &[u64], n: usize, c: Cell, found: &mut [u64]) -> usize
+// The ids at the neighbours of c at the kind, in order; the answer is their number.
+pub fn found_at(ids: &[u64], n: usize, kind: u64, c: Cell, found: &mut [u64]) -> usize
     requires { ⌜ ((t : Ids) × HeldRows (now ids) n t × T (cellInRange c) × (26 ≤ length (now found))) ⌝ }
-    ensures { λ r. ⌜ (r ≤ 26) × ((t : Ids) → HeldRows (now (ids .entry)) n t → take r (now (found .exit)) ≡ foundAt touch26 t c) × (drop r (now (found .exit)) ≡ drop r (now (found .entry))) ⌝ }
+    ensures { λ r. ⌜ (r ≤ 26) × ((t : Ids) → HeldRows (now (ids .entry)) n t → take r (now (found .exit)) ≡ foundAt (touchAt kind) t c) × (drop r (now (found .exit)) ≡ drop r (now (found .entry))) ⌝ }
 {
     let mut near = 0;
     let mut m = 0;
     let mut k: u64 = 0;
     while k < 26 {
-        let p = find4_near(ids, ID_WIDTH, n, neighbour_of(c, k + 1), near);
-        near = index(p);
-        match p {
-            Place::Found(i) => {
-                found[m] = ids[ID_WIDTH * i + CELL_ID];
-                m += 1;
-                k += 1;
+        if has_offset(kind, k) {
+            let p = find4_near(ids, ID_WIDTH, n, neighbour_of(c, k + 1), near);
+            near = index(p);
+            match p {
+                Place::Found(i) => {
+                    found[m] = ids[ID_WIDTH * i + CELL_ID];
+                    m += 1;
+                    k += 1;
+                }
+                Place::Missing(_) => {
+                    k += 1;
+                }
             }
-            Place::Missing(_) => {
-                k += 1;
-            }
+        } else {
+            k += 1;
         }
     }
     m
@@ -248,12 +253,12 @@ fn join(ids: &mut [u64], n: usize, c: Cell, found: &[u64], k: usize) -> usize
 }
 
 // Rule 1, for one newly occupied cell.
-fn rule1(ids: &mut [u64], n: usize, next: u64, c: Cell) -> Numbered
+fn rule1(ids: &mut [u64], n: usize, kind: u64, next: u64, c: Cell) -> Numbered
     requires { ⌜ ((s : Groups) × HeldIds (now ids) n next s × T (cellInRange c) × (idWidth * n + idWidth ≤ length (now ids)) × (next < 18446744073709551615)) ⌝ }
-    ensures { λ r. ⌜ (r .count ≤ n + 1) × (r .next ≤ next + 1) × ((s : Groups) → HeldIds (now (ids .entry)) n next s → HeldIds (now (ids .exit)) (r .count) (r .next) (rule1 touch26 s c)) ⌝ }
+    ensures { λ r. ⌜ (r .count ≤ n + 1) × (r .next ≤ next + 1) × ((s : Groups) → HeldIds (now (ids .entry)) n next s → HeldIds (now (ids .exit)) (r .count) (r .next) (rule1 (touchAt kind) s c)) ⌝ }
 {
     let mut found = [0; 26];
-    let k = found_at(ids, n, c, &mut found);
+    let k = found_at(ids, n, kind, c, &mut found);
     if k == 0 {
         let m = push(ids, n, c, next);
         return Numbered {
@@ -269,15 +274,22 @@ fn rule1(ids: &mut [u64], n: usize, next: u64, c: Cell) -> Numbered
 }
 
 // Rule 1 for m newly occupied cells, in order.
-pub fn rules1(ids: &mut [u64], n: usize, next: u64, occupied: &[u64], m: usize) -> Numbered
+pub fn rules1(
+    ids: &mut [u64],
+    n: usize,
+    kind: u64,
+    next: u64,
+    occupied: &[u64],
+    m: usize,
+) -> Numbered
     requires { ⌜ ((s : Groups) × (l : List Cell) × HeldIds (now ids) n next s × HeldCells (now occupied) m l × (idWidth * n + idWidth * m ≤ length (now ids)) × (next + m < 18446744073709551616)) ⌝ }
-    ensures { λ r. ⌜ (r .count ≤ n + m) × (r .next ≤ next + m) × ((s : Groups) (l : List Cell) → HeldIds (now (ids .entry)) n next s → HeldCells (now (occupied .entry)) m l → HeldIds (now (ids .exit)) (r .count) (r .next) (run (rule1 touch26) s l)) ⌝ }
+    ensures { λ r. ⌜ (r .count ≤ n + m) × (r .next ≤ next + m) × ((s : Groups) (l : List Cell) → HeldIds (now (ids .entry)) n next s → HeldCells (now (occupied .entry)) m l → HeldIds (now (ids .exit)) (r .count) (r .next) (run (rule1 (touchAt kind)) s l)) ⌝ }
 {
     let mut count = n;
     let mut id = next;
     let mut i = 0;
     while i < m {
-        let r = rule1(ids, count, id, cell_at(occupied, NET_WIDTH * i));
+        let r = rule1(ids, count, kind, id, cell_at(occupied, NET_WIDTH * i));
         count = r.count;
         id = r.next;
         i += 1;
@@ -320,7 +332,7 @@ fn sift(ids: &mut [u64], n: usize, emptied: &[u64], m: usize) -> usize
 // Rule 2: all newly emptied cells leave their groups; the answer is the new number of rows.
 pub fn rule2(ids: &mut [u64], n: usize, emptied: &[u64], m: usize) -> usize
     requires { ⌜ ((t : Ids) × (l : List Cell) × HeldRows (now ids) n t × HeldCells (now emptied) m l) ⌝ }
-    ensures { λ r. ⌜ (r ≤ n) × ((next : ℕ) (s : Groups) (l : List Cell) → HeldIds (now (ids .entry)) n next s → HeldCells (now (emptied .entry)) m l → HeldIds (now (ids .exit)) r next (rule2 touch26 l s)) ⌝ }
+    ensures { λ r. ⌜ (r ≤ n) × ((kind next : ℕ) (s : Groups) (l : List Cell) → HeldIds (now (ids .entry)) n next s → HeldCells (now (emptied .entry)) m l → HeldIds (now (ids .exit)) r next (rule2 (touchAt kind) l s)) ⌝ }
 {
     let r = sift(ids, n, emptied, m);
     write_zeros(ids, ID_WIDTH * r, ID_WIDTH * (n - r));

@@ -7,7 +7,7 @@ ghost use Prim.Native.Nat.{ℕ, _*_, _≤_, _<_};
 ghost use lib.ListN.{length};
 ghost use Rattle.model.specs.Lists.{all, keys, count};
 ghost use mathlib.Core.List.{List};
-ghost use Rattle.model.specs.Cells.{Cell as CellOf, touch26};
+ghost use Rattle.model.specs.Cells.{Cell as CellOf, touchAt};
 ghost use Rattle.model.specs.Laws.Shared.{sharedIn};
 ghost use Rattle.neighbourhood.specs.Standing.{Cells, HasTable};
 ghost use Rattle.table.specs.Rows.{table4};
@@ -20,7 +20,7 @@ ghost use Rattle.parts_check.specs.Agree.{agreeAt, firstAgrees, Partable
 // Each row is marked with one more than the first row of its connected part.
 fn mark_parts(cells: &[u64], m: usize, marks: &mut [u64], queue: &mut [u64])
     requires { ⌜ Partable (now cells) m (now marks) (now queue) ⌝ }
-    ensures { λ _. ⌜ ((t : List (CellOf × ℕ)) → Cells (now (cells .entry)) m t → Labelled (now (cells .entry)) m t m (now (marks .exit))) ⌝ }
+    ensures { λ _. ⌜ ((kind : ℕ) (t : List (CellOf × ℕ)) → Cells kind (now (cells .entry)) m t → Labelled kind (now (cells .entry)) m t m (now (marks .exit))) ⌝ }
 {
     let mut i = 0;
     while i < m {
@@ -72,7 +72,7 @@ fn firsts_agree(ids: &[u64], m: usize, marks: &[u64]) -> bool
 // Whether the ids of m rows are shared exactly by joined cells.
 pub fn parts_right(cells: &[u64], ids: &[u64], m: usize) -> bool
     requires { ⌜ HasTable (now cells) m × (keys (table4 idWidth m (now ids)) ≡ keys (table4 cellWidth m (now cells))) × (idWidth * m ≤ length (now ids)) × (m ≤ mostCells) ⌝ }
-    ensures { λ r. ⌜ r ≡ sharedIn touch26 (idsIn m (now (ids .entry))) ⌝ }
+    ensures { λ r. ⌜ ((kind : ℕ) (t : List (CellOf × ℕ)) → Cells kind (now (cells .entry)) m t → r ≡ sharedIn (touchAt kind) (idsIn m (now (ids .entry)))) ⌝ }
 {
     let mut marks = [0u64; MOST_CELLS];
     let mut queue = [0u64; MOST_CELLS];

@@ -8,7 +8,7 @@ use mathlib.Core.Option.{Option, none, some}
 use lib.Dec.{eqb}
 use lib.ListN.{length, getD}
 use Rattle.model.specs.Lists.{keep, each, keys}
-use Rattle.model.specs.Cells.{Cell, touch26}
+use Rattle.model.specs.Cells.{Cell, touchAt}
 use Rattle.model.specs.Shortest.{shownPath}
 use Rattle.neighbourhood.specs.Rows.{rowCell, onward}
 use Rattle.neighbourhood.specs.Standing.{Cells, HasTable, Levels}
@@ -64,12 +64,12 @@ abbrev pub cellsOf : Option (List Cell) → List Cell
 cellsOf none = []
 cellsOf (some p) = p
 
--- The path shown from one row's cell to another's.
-abbrev pub shownRows : List ℕ → List (Cell × ℕ) → ℕ → ℕ → Option (List Cell)
-shownRows words t from to = shownPath touch26 (keys t) (rowCell words from) (rowCell words to)
+-- The path shown from one row's cell to another's, by touching of a kind.
+abbrev pub shownRows : ℕ → List ℕ → List (Cell × ℕ) → ℕ → ℕ → Option (List Cell)
+shownRows kind words t from to = shownPath (touchAt kind) (keys t) (rowCell words from) (rowCell words to)
 
 -- The cells of the path are written, nothing behind them is, and the answer is their number, at most that of the rows.
-pub record Walked (words : List ℕ) (n from to : ℕ) (answer : List ℕ) (r : ℕ) (answer′ : List ℕ) (t : List (Cell × ℕ)) : Type 0 where
+pub record Walked (kind : ℕ) (words : List ℕ) (n from to : ℕ) (answer : List ℕ) (r : ℕ) (answer′ : List ℕ) (t : List (Cell × ℕ)) : Type 0 where
   pub few : r ≤ n
-  pub number : r ≡ length (cellsOf (shownRows words t from to))
-  pub written : answer′ ≡ filled answer (cellsOf (shownRows words t from to))
+  pub number : r ≡ length (cellsOf (shownRows kind words t from to))
+  pub written : answer′ ≡ filled answer (cellsOf (shownRows kind words t from to))

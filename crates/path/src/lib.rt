@@ -40,7 +40,7 @@ fn next_step(cells: &[u64], n: usize, marks: &[u64], i: usize) -> usize
 // The cells of the path from a row to the row that the marks count from are written; the answer is how many, 0 where no path leads.
 fn path_into(cells: &[u64], n: usize, marks: &[u64], from: usize, answer: &mut [u64]) -> usize
     requires { ⌜ ((to : ℕ) × Walkable (now cells) n (now marks) from to (now answer)) ⌝ }
-    ensures { λ r. ⌜ ((t : List (CellOf × ℕ)) → Cells (now (cells .entry)) n t → (to : ℕ) → to < n → Levels (now (cells .entry)) n to (now (marks .entry)) → Walked (now (cells .entry)) n from to (now (answer .entry)) r (now (answer .exit)) t) ⌝ }
+    ensures { λ r. ⌜ ((kind : ℕ) (t : List (CellOf × ℕ)) → Cells kind (now (cells .entry)) n t → (to : ℕ) → to < n → Levels (now (cells .entry)) n to (now (marks .entry)) → Walked kind (now (cells .entry)) n from to (now (answer .entry)) r (now (answer .exit)) t) ⌝ }
 {
     let count = marks[from] as usize;
     let mut i = from;
@@ -60,7 +60,7 @@ fn path_into(cells: &[u64], n: usize, marks: &[u64], from: usize, answer: &mut [
 // The cells of the path between two rows are written; the answer is how many, 0 where no path leads.
 pub fn path_rows(cells: &[u64], n: usize, from: usize, to: usize, answer: &mut [u64]) -> usize
     requires { ⌜ HasTable (now cells) n × (from < n) × (to < n) × (n ≤ mostCells) × (answerWidth * n ≤ length (now answer)) ⌝ }
-    ensures { λ r. ⌜ ((t : List (CellOf × ℕ)) → Cells (now (cells .entry)) n t → Walked (now (cells .entry)) n from to (now (answer .entry)) r (now (answer .exit)) t) ⌝ }
+    ensures { λ r. ⌜ ((kind : ℕ) (t : List (CellOf × ℕ)) → Cells kind (now (cells .entry)) n t → Walked kind (now (cells .entry)) n from to (now (answer .entry)) r (now (answer .exit)) t) ⌝ }
 {
     let mut marks = [0u64; MOST_CELLS];
     let mut queue = [0u64; MOST_CELLS];

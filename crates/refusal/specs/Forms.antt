@@ -41,3 +41,7 @@ badFrame at axis = placed 11 at axis
 -- 12: no path leads there.
 abbrev pub noPath : Refusal
 noPath = plain 12
+
+-- 13: what touching means is none of the three kinds.
+abbrev pub unknownKind : Refusal
+unknownKind = plain 13

@@ -1,6 +1,6 @@
 // Why a call was refused, in one form for every call: the scope's number, and where the fault is.
 ghost use mathlib.Core.Path.{_≡_};
-ghost use Rattle.refusal.specs.Forms.{plain, none, tooShort, broken, outOfRange, fewIds, badReport, badFrame, noPath};
+ghost use Rattle.refusal.specs.Forms.{plain, none, tooShort, broken, outOfRange, fewIds, badReport, badFrame, noPath, unknownKind};
 
 pub struct Refusal {
     // The scope's number; 0 where nothing is refused.
@@ -92,4 +92,11 @@ pub fn no_path() -> Refusal
     ensures { λ r. ⌜ r ≡ noPath ⌝ }
 {
     plain(12)
+}
+
+// 13: what touching means is none of the three kinds.
+pub fn unknown_kind() -> Refusal
+    ensures { λ r. ⌜ r ≡ unknownKind ⌝ }
+{
+    plain(13)
 }

@@ -3,7 +3,7 @@ use partition::build_records;
 use split::regroup;
 ghost use Prim.Native.Nat.{ℕ};
 ghost use mathlib.Core.List.{List};
-ghost use Rattle.model.specs.Cells.{Cell, touch26};
+ghost use Rattle.model.specs.Cells.{Cell, touchAt};
 ghost use Rattle.model.specs.Groups.{Groups, regroup};
 ghost use Rattle.regrouping.specs.Regrouping.{Regroups, Regrouped};
 
@@ -19,6 +19,7 @@ pub struct Made {
 pub fn regroup_and_record(
     ids: &mut [u64],
     n: usize,
+    kind: u64,
     next: u64,
     counts: &[u64],
     groups: &mut [u64],
@@ -27,10 +28,10 @@ pub fn regroup_and_record(
     emp: &[u64],
     m: usize,
 ) -> Made
-    requires { ⌜ ((s : Groups) × (o : List Cell) × (e : List Cell) × (entities : List (ℕ × Cell)) × Regroups (now ids) n next (now counts) (now groups) (now occ) p (now emp) m s o e entities) ⌝ }
-    ensures { λ r. ⌜ ((s : Groups) (o e : List Cell) (entities : List (ℕ × Cell)) → Regroups (now (ids .entry)) n next (now (counts .entry)) (now (groups .entry)) (now (occ .entry)) p (now (emp .entry)) m s o e entities → Regrouped (now (ids .exit)) (now (groups .exit)) r (regroup touch26 o e s) entities) ⌝ }
+    requires { ⌜ ((s : Groups) × (o : List Cell) × (e : List Cell) × (entities : List (ℕ × Cell)) × Regroups kind (now ids) n next (now counts) (now groups) (now occ) p (now emp) m s o e entities) ⌝ }
+    ensures { λ r. ⌜ ((s : Groups) (o e : List Cell) (entities : List (ℕ × Cell)) → Regroups kind (now (ids .entry)) n next (now (counts .entry)) (now (groups .entry)) (now (occ .entry)) p (now (emp .entry)) m s o e entities → Regrouped (now (ids .exit)) (now (groups .exit)) r (regroup (touchAt kind) o e s) entities) ⌝ }
 {
-    let r = regroup(ids, n, next, occ, p, emp, m);
+    let r = regroup(ids, n, kind, next, occ, p, emp, m);
     let count = r.count;
     let k = build_records(ids, count, counts, groups);
     Made {

@@ -1,4 +1,5 @@
-// Settings of two grids as they are stored; those of grid 1 were changed, and its last record holds.
+// Settings of two grids as they are stored; those of grid 1 were changed, and its last record holds. It differs from that of grid 2 in
+// the kind of touching alone.
 use settings::Settings;
 use settings::Writing;
 
@@ -12,10 +13,10 @@ fn add(bytes: &mut [u8], n: usize, grid: u64, s: Settings) -> usize {
     }
 }
 
-fn at(edge: u8, x: i32, y: i32) -> Settings {
+fn at(edge: u8, kind: u8, x: i32, y: i32) -> Settings {
     Settings {
         edge,
-        kind: 26,
+        kind,
         x,
         y,
         z: 0,
@@ -24,7 +25,7 @@ fn at(edge: u8, x: i32, y: i32) -> Settings {
 
 // The three records, and their length.
 pub fn make(bytes: &mut [u8]) -> usize {
-    let a = add(bytes, 0, 1, at(4, 0, 0));
-    let b = add(bytes, a, 2, at(1, 7, 7));
-    add(bytes, b, 1, at(2, 100, -50))
+    let a = add(bytes, 0, 1, at(4, 18, 0, 0));
+    let b = add(bytes, a, 2, at(2, 6, 100, -50));
+    add(bytes, b, 1, at(2, 26, 100, -50))
 }

@@ -1,5 +1,6 @@
 // What is told of reports, batches and entities, a line each.
 use ask::IdOf;
+use ask::KindOf;
 use ask::Where;
 use component::CellId;
 use libc::STDOUT_FILENO;
@@ -32,9 +33,10 @@ fn cell(c: CellId) {
     coordinate(d.z);
 }
 
-// What the reader says of grid 1: its edge, its touching kind and its origin.
-pub fn settings(r: Reading) {
-    say(b"settings of grid 1: ");
+// What the reader says of a grid: its edge, its touching kind and its origin.
+pub fn settings(grid: u64, r: Reading) {
+    number(b"settings of grid ", grid);
+    say(b": ");
     match r {
         Reading::Found(s) => {
             number(b"edge ", s.edge as u64);
@@ -49,6 +51,18 @@ pub fn settings(r: Reading) {
         Reading::Faulty(_, at) => number(b"faulty at ", at as u64),
     }
     say(b"\n");
+}
+
+// What a fresh state was answered by, and what touching means in it.
+pub fn fresh(state: &[u64], code: u64) {
+    number(b"fresh state: code ", code);
+    match ask::kind_of(state) {
+        KindOf::Is(kind) => {
+            number(b" kind ", kind);
+            say(b"\n");
+        }
+        KindOf::Refused(r) => refusal(b" refused ", r),
+    }
 }
 
 pub fn event(entity: u64, c: CellId) {
@@ -76,10 +90,14 @@ pub fn refused(entity: u64, r: Refusal) {
     refusal(b": refused ", r);
 }
 
-pub fn batch(moves: u64, code: u64) {
+// What a batch was answered by; of a refused one also where the fault is.
+pub fn batch(moves: u64, r: Refusal) {
     number(b"batch of ", moves);
-    number(b" moves: code ", code);
-    say(b"\n");
+    if r.number != 0 {
+        refusal(b" moves: refused ", r);
+        return;
+    }
+    say(b" moves: code 0\n");
 }
 
 // Where an entity stands, and the id of its group.

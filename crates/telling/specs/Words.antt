@@ -45,6 +45,10 @@ numbered words t = (t .number, besideWords words (t .beside))
 abbrev pub refusalTold : Refusal → ℕ × List ℕ
 refusalTold r = (r .number, placeWords (r .at) (r .axis))
 
+-- What touching means: 1, as every state has a kind, and it.
+abbrev pub kindWords : ℕ → List ℕ
+kindWords kind = 1 ∷ kind ∷ []
+
 -- Where an entity stands: found, grid, x, y, z.
 abbrev pub whereWords : Option CellId → List ℕ
 whereWords (some c) = 1 ∷ c .grid ∷ axisWords (c .coord) []

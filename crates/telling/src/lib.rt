@@ -9,6 +9,7 @@ use lists::Listing;
 use lookups::CountOf;
 use lookups::GroupOf;
 use lookups::IdOf;
+use lookups::KindOf;
 use lookups::Where;
 use refusal::Refusal;
 pub use reports::report_given;
@@ -17,11 +18,11 @@ ghost use mathlib.Core.Path.{_≡_};
 ghost use mathlib.Core.List.{List};
 ghost use Prim.Native.Nat.{ℕ, _≤_};
 ghost use lib.ListN.{length};
-ghost use Rattle.lookups.specs.Told.{whereTold, idTold, countTold, groupTold};
+ghost use Rattle.lookups.specs.Told.{kindTold, whereTold, idTold, countTold, groupTold};
 ghost use Rattle.lists.specs.Told.{listingTold};
 ghost use Rattle.floods.specs.Told.{floodingTold};
 ghost use Rattle.telling.specs.Given.{cellOf, depthGiven};
-ghost use Rattle.telling.specs.Words.{axisWord, bit, placeWords, numbered, refusalTold, whereWords, numberWords, groupWords, listingWords, floodingWords, fronted, telling};
+ghost use Rattle.telling.specs.Words.{axisWord, bit, placeWords, numbered, refusalTold, kindWords, whereWords, numberWords, groupWords, listingWords, floodingWords, fronted, telling};
 
 // The cell of a grid number and three coordinates.
 pub fn cell(grid: u64, x: i32, y: i32, z: i32) -> CellId
@@ -83,6 +84,21 @@ fn tell_needed(told: &mut [u64], k: usize) -> u64
     let words = [0, k as u64, 0];
     tell(told, &words);
     8
+}
+
+// What is told of what touching means; the answer is its number.
+pub fn tell_kind(told: &mut [u64], a: KindOf) -> u64
+    requires { ⌜ 3 ≤ length (now told) ⌝ }
+    ensures { λ r. ⌜ _≡_ {A = ℕ × List ℕ} (r, now (told .exit)) (telling (numbered kindWords (kindTold a)) (now (told .entry))) ⌝ }
+{
+    match a {
+        KindOf::Is(kind) => {
+            let words = [1, kind];
+            tell(told, &words);
+            0
+        }
+        KindOf::Refused(r) => tell_refusal(told, r),
+    }
 }
 
 // What is told of where an entity stands; the answer is its number.

@@ -3,7 +3,9 @@ use Prim.Native.Nat.{ℕ}
 use mathlib.Core.Path.{_≡_}
 use mathlib.Core.Bool.{true}
 use mathlib.Core.List.{List}
-use Rattle.model.specs.Cells.{touch26}
+use lib.Dec.{T}
+use Rattle.model.specs.Update.{touchOf}
+use Rattle.model.specs.Consistent.{kindKnown}
 use Rattle.model.specs.Laws.Consistency.{Ok}
 use Rattle.layout.specs.State.{decode}
 use Rattle.layout.specs.Points.{longEnough}
@@ -14,4 +16,5 @@ pub record Known (w : List ℕ) : Type 0 where
   pub long : longEnough w ≡ true
   pub stands : BeginsWith (decode w) w
   pub fits : Fits (decode w)
-  pub ok : Ok touch26 (decode w)
+  pub kind-known : T (kindKnown (decode w))
+  pub ok : Ok (touchOf (decode w)) (decode w)

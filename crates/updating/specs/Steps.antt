@@ -4,10 +4,10 @@ use mathlib.Core.Path.{_≡_}
 use mathlib.Core.List.{List, _∷_}
 use lib.ListN.{length, replicate}
 use Rattle.model.specs.Lists.{keys}
-use Rattle.model.specs.Cells.{Cell, touch26}
+use Rattle.model.specs.Cells.{Cell, touchAt}
 use Rattle.model.specs.Occupancy.{Batch, occupied, playBatch}
 use Rattle.model.specs.Groups.{regroup}
-use Rattle.model.specs.Update.{mostEntities, mostCells, update}
+use Rattle.model.specs.Update.{mostEntities, mostCells, touchOf, update}
 use Rattle.layout.specs.Widths.{headerLen, spare, entityWidth, cellWidth, netWidth, idWidth, groupWidth, crowdWidth}
 use Rattle.layout.specs.Rows.{entitiesImage, cellsImage, idsImage}
 use Rattle.layout.specs.State.{decode}
@@ -54,8 +54,8 @@ pub record Opened (w ents cells crowd : List ℕ) (n : Counts) : Type 0 where
   pub emptied-none : n .emptied ≡ 0
 
 -- The groups of the state of words w can be copied to the words ids and regrouped there, and the records built in the words groups, after
--- the cells o are newly occupied and the cells e newly emptied; the words counts count the entities in each cell that has an id then.
-pub record CanRegroup (w ids counts groups occ : List ℕ) (p : ℕ) (emp : List ℕ) (m : ℕ) (o e : List Cell) (entities : List (ℕ × Cell)) : Type 0 where
+-- the cells o are newly occupied and the cells e newly emptied, at the kind of touching; the words counts count the entities in each cell that has an id then.
+pub record CanRegroup (kind : ℕ) (w ids counts groups occ : List ℕ) (p : ℕ) (emp : List ℕ) (m : ℕ) (o e : List Cell) (entities : List (ℕ × Cell)) : Type 0 where
   pub known : Known w
   pub ids-blank : Blank ids
   pub ids-room : idSpace ≤ length ids
@@ -64,18 +64,18 @@ pub record CanRegroup (w ids counts groups occ : List ℕ) (p : ℕ) (emp : List
   pub opened : HeldCells occ p o
   pub opened-few : p ≤ mostCells
   pub emptied : HeldCells emp m e
-  pub few : length (regroup touch26 o e (decode w .groups) .ids) ≤ mostCells
+  pub few : length (regroup (touchAt kind) o e (decode w .groups) .ids) ≤ mostCells
   pub next-room : decode w .groups .next + p < 18446744073709551616
-  pub next-fits : regroup touch26 o e (decode w .groups) .next < 18446744073709551616
-  pub counted : Counted counts entities (keys (regroup touch26 o e (decode w .groups) .ids))
+  pub next-fits : regroup (touchAt kind) o e (decode w .groups) .next < 18446744073709551616
+  pub counted : Counted counts entities (keys (regroup (touchAt kind) o e (decode w .groups) .ids))
   pub few-entities : length entities ≤ mostEntities
 
 -- The events of the batch b, which is accepted, are played, and the state of words w is still to be written.
 pub record Finishes (w ents cells crowd occ emp : List ℕ) (n : Counts) (b : Batch) : Type 0 where
   pub known : Known w
-  pub accepted : update touch26 (decode w) b .0 ≡ 0
-  pub ready : Ready ents cells crowd occ emp n (occupied (decode w .occupancy)) (playBatch touch26 b (decode w .occupancy))
+  pub accepted : update (decode w) b .0 ≡ 0
+  pub ready : Ready (decode w .kind) ents cells crowd occ emp n (occupied (decode w .occupancy)) (playBatch (touchOf (decode w)) b (decode w .occupancy))
 
--- The words of a header: how many rows each table has, the next id, zeros.
-abbrev pub headWords : Counts → Made → List ℕ
-headWords n g = n .entities ∷ n .cells ∷ n .occupied ∷ n .emptied ∷ g .ids ∷ g .groups ∷ g .next ∷ replicate (headerLen - spare) 0
+-- The words of a header: how many rows each table has, the next id, what touching means, zeros.
+abbrev pub headWords : Counts → Made → ℕ → List ℕ
+headWords n g kind = n .entities ∷ n .cells ∷ n .occupied ∷ n .emptied ∷ g .ids ∷ g .groups ∷ g .next ∷ kind ∷ replicate (headerLen - spare) 0

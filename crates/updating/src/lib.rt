@@ -14,6 +14,7 @@ use layout::GROUPS_LEN;
 use layout::HEADER_LEN;
 use layout::ID_COUNT;
 use layout::IDS_LEN;
+use layout::KIND;
 use layout::MOST_CELLS;
 use layout::NET_LEN;
 use layout::NET_WIDTH;
@@ -35,13 +36,13 @@ ghost use mathlib.Core.List.{List, _++_};
 ghost use Prim.Native.Nat.{ℕ, _+_, _*_, _≤_};
 ghost use lib.ListN.{length, take, drop};
 ghost use Rattle.model.specs.Lists.{values};
-ghost use Rattle.model.specs.Cells.{Cell, touch26};
+ghost use Rattle.model.specs.Cells.{Cell, touchAt};
 ghost use Rattle.model.specs.Occupancy.{Batch};
 ghost use Rattle.model.specs.Groups.{regroup};
 ghost use Rattle.model.specs.Update.{mostCells, accepted, update};
 ghost use Rattle.layout.specs.Widths.{crowdWidth, moveWidth};
 ghost use Rattle.layout.specs.Rows.{idsIn};
-ghost use Rattle.layout.specs.State.{entitiesLen, cellsLen, netLen, stateLen, encode, decode, nextId};
+ghost use Rattle.layout.specs.State.{entitiesLen, cellsLen, netLen, stateLen, encode, decode, nextId, kindOf};
 ghost use Rattle.batch.specs.Words.{batchOf, early};
 ghost use Rattle.regrouping.specs.Regrouping.{Regrouped};
 ghost use Rattle.updating.specs.Done.{done};
@@ -77,9 +78,10 @@ fn counts_of(crowd: &[u64], n: usize, counts: &mut [u64])
     }
 }
 
-// The cells with an id are copied out and regrouped, and the group records are built, with the entities counted in each cell.
+// The cells with an id are copied out and regrouped at the kind of touching, and the group records are built, with the entities counted in each cell.
 fn regroup_state(
     state: &[u64],
+    kind: u64,
     ids: &mut [u64],
     counts: &[u64],
     groups: &mut [u64],
@@ -88,17 +90,17 @@ fn regroup_state(
     emp: &[u64],
     m: usize,
 ) -> Made
-    requires { ⌜ ((o : List Cell) × (e : List Cell) × (entities : List (ℕ × Cell)) × CanRegroup (now state) (now ids) (now counts) (now groups) (now occ) p (now emp) m o e entities) ⌝ }
-    ensures { λ r. ⌜ ((o e : List Cell) (entities : List (ℕ × Cell)) → CanRegroup (now (state .entry)) (now (ids .entry)) (now (counts .entry)) (now (groups .entry)) (now (occ .entry)) p (now (emp .entry)) m o e entities → Regrouped (now (ids .exit)) (now (groups .exit)) r (regroup touch26 o e (decode (now (state .entry)) .groups)) entities) ⌝ }
+    requires { ⌜ ((o : List Cell) × (e : List Cell) × (entities : List (ℕ × Cell)) × CanRegroup kind (now state) (now ids) (now counts) (now groups) (now occ) p (now emp) m o e entities) ⌝ }
+    ensures { λ r. ⌜ ((o e : List Cell) (entities : List (ℕ × Cell)) → CanRegroup kind (now (state .entry)) (now (ids .entry)) (now (counts .entry)) (now (groups .entry)) (now (occ .entry)) p (now (emp .entry)) m o e entities → Regrouped (now (ids .exit)) (now (groups .exit)) r (regroup (touchAt kind) o e (decode (now (state .entry)) .groups)) entities) ⌝ }
 {
     write_row(ids, 0, id_words(state));
     let n = count_at(state, ID_COUNT);
-    regroup_and_record(ids, n, state[NEXT_ID], counts, groups, occ, p, emp, m)
+    regroup_and_record(ids, n, kind, state[NEXT_ID], counts, groups, occ, p, emp, m)
 }
 
-// The header of a state with these counts.
-fn header(n: Counts, g: Made) -> [u64; HEADER_LEN]
-    ensures { λ r. ⌜ r ≡ headWords n g ⌝ }
+// The header of a state with these counts and this kind of touching.
+fn header(n: Counts, g: Made, kind: u64) -> [u64; HEADER_LEN]
+    ensures { λ r. ⌜ r ≡ headWords n g kind ⌝ }
 {
     let mut head = [0u64; HEADER_LEN];
     head[ENTITY_COUNT] = n.entities as u64;
@@ -108,6 +110,7 @@ fn header(n: Counts, g: Made) -> [u64; HEADER_LEN]
     head[ID_COUNT] = g.ids as u64;
     head[GROUP_COUNT] = g.groups as u64;
     head[NEXT_ID] = g.next;
+    head[KIND] = kind;
     head
 }
 
@@ -120,9 +123,10 @@ fn finish(
     occ: &[u64],
     emp: &[u64],
     n: Counts,
+    kind: u64,
 )
-    requires { ⌜ ((b : Batch) × Finishes (now state) (now ents) (now cells) (now crowd) (now occ) (now emp) n b × (entitiesLen ≤ length (now ents)) × (cellsLen ≤ length (now cells)) × (netLen ≤ length (now occ)) × (netLen ≤ length (now emp))) ⌝ }
-    ensures { λ _. ⌜ ((b : Batch) → Finishes (now (state .entry)) (now (ents .entry)) (now (cells .entry)) (now (crowd .entry)) (now (occ .entry)) (now (emp .entry)) n b → now (state .exit) ≡ encode (accepted touch26 (decode (now (state .entry))) b) ++ drop stateLen (now (state .entry))) ⌝ }
+    requires { ⌜ ((b : Batch) × Finishes (now state) (now ents) (now cells) (now crowd) (now occ) (now emp) n b × (entitiesLen ≤ length (now ents)) × (cellsLen ≤ length (now cells)) × (netLen ≤ length (now occ)) × (netLen ≤ length (now emp)) × (kind ≡ kindOf (now state))) ⌝ }
+    ensures { λ _. ⌜ ((b : Batch) → Finishes (now (state .entry)) (now (ents .entry)) (now (cells .entry)) (now (crowd .entry)) (now (occ .entry)) (now (emp .entry)) n b → now (state .exit) ≡ encode (accepted (decode (now (state .entry))) b) ++ drop stateLen (now (state .entry))) ⌝ }
 {
     let mut counts = [0u64; MOST_CELLS];
     counts_of(crowd, n.cells, &mut counts);
@@ -130,8 +134,8 @@ fn finish(
     let mut groups = [0u64; GROUPS_LEN];
     let p = n.occupied;
     let m = n.emptied;
-    let g = regroup_state(state, &mut ids, &counts, &mut groups, occ, p, emp, m);
-    let head = header(n, g);
+    let g = regroup_state(state, kind, &mut ids, &counts, &mut groups, occ, p, emp, m);
+    let head = header(n, g, kind);
     write_front(state, &head, ents, cells, occ, emp);
     write_back(state, &ids, &groups);
 }
@@ -139,8 +143,9 @@ fn finish(
 // The batch is played in memory of its own; where no event breaks a limit, the state is written.
 pub fn apply_batch(state: &mut [u64], batch: &[u64], removals: usize, moves: usize) -> u64
     requires { ⌜ Known (now state) × (removals + moveWidth * moves ≤ length (now batch)) × (early (nextId (now state)) (batchOf (now batch) removals moves) ≡ 0) ⌝ }
-    ensures { λ r. ⌜ (r, now (state .exit)) ≡ done (now (state .entry)) (update touch26 (decode (now (state .entry))) (batchOf (now (batch .entry)) removals moves)) ⌝ }
+    ensures { λ r. ⌜ (r, now (state .exit)) ≡ done (now (state .entry)) (update (decode (now (state .entry))) (batchOf (now (batch .entry)) removals moves)) ⌝ }
 {
+    let kind = state[KIND];
     let mut ents = [0u64; ENTITIES_LEN + ENTITY_WIDTH];
     let mut cells = [0u64; CELLS_LEN + CELL_WIDTH];
     let mut crowd = [0u64; CROWD_WIDTH * MOST_CELLS + CROWD_WIDTH];
@@ -155,6 +160,7 @@ pub fn apply_batch(state: &mut [u64], batch: &[u64], removals: usize, moves: usi
         &mut emp,
         batch,
         n,
+        kind,
         removals,
         moves,
     );
@@ -163,6 +169,6 @@ pub fn apply_batch(state: &mut [u64], batch: &[u64], removals: usize, moves: usi
         return broken;
     }
     let c = p.counts;
-    finish(state, &ents, &cells, &crowd, &occ, &emp, c);
+    finish(state, &ents, &cells, &crowd, &occ, &emp, c, kind);
     0
 }

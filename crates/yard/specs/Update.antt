@@ -5,7 +5,6 @@ use mathlib.Core.List.{List}
 use Rattle.refusal.specs.declared.Refusal.{Refusal}
 use Rattle.refusal.specs.Forms as form
 use Rattle.refusal.specs.Forms.{broken}
-use Rattle.model.specs.Cells.{touch26}
 use Rattle.model.specs.Occupancy.{Batch}
 use Rattle.model.specs.Update.{update}
 use Rattle.layout.specs.State.{decode}
@@ -24,4 +23,4 @@ unfoldable pub updateOf : List ℕ → List ℕ → ℕ → ℕ → Refusal × L
 updateOf w b removals moves =
     cond (tooShort w b removals moves) (form.tooShort, w)
     (cond (not (consistentWords w)) (broken (firstBroken w), w)
-    (placedIn (batchOf b removals moves) (done w (update touch26 (decode w) (batchOf b removals moves)))))
+    (placedIn (batchOf b removals moves) (done w (update (decode w) (batchOf b removals moves)))))

@@ -1,6 +1,7 @@
 // Runs updates in a yard, to be timed from outside. Each line of standard input is a letter and a count:
 // `f` batches of one event and `F` batches of 1,024 events in a full yard, `s` and `S` the same in a small one, and `c` tests of the
-// full yard's consistency. A line with the count 0 makes the yard alone.
+// full yard's consistency. A line with the count 0 makes the yard alone. Touching means 26 neighbours; the next letter of the alphabet
+// asks for the same where it means 6: `g`, `G`, `t`, `T` and `d`.
 mod events;
 mod work;
 

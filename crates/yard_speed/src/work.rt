@@ -53,10 +53,26 @@ fn set_some(
     update(state, batch, 0, n);
 }
 
-// The yard with all its entities.
-fn set_up(state: &mut [u64; STATE_LEN], batch: &mut [u64; BATCH_LEN], is_full: bool) {
-    fresh(state, 0);
-    if !is_full {
+// Whether a letter asks for the full yard.
+fn is_full(letter: u8) -> bool {
+    match letter {
+        b's' | b'S' | b't' | b'T' => false,
+        _ => true,
+    }
+}
+
+// What touching means in the yard of a letter.
+fn kind_of(letter: u8) -> u64 {
+    match letter {
+        b'g' | b'G' | b't' | b'T' | b'd' => 6,
+        _ => 26,
+    }
+}
+
+// The yard of a letter, with all its entities.
+fn set_up(state: &mut [u64; STATE_LEN], batch: &mut [u64; BATCH_LEN], letter: u8) {
+    fresh(state, 0, kind_of(letter));
+    if !is_full(letter) {
         set_some(state, batch, 0, 256, false);
         return;
     }
@@ -99,11 +115,11 @@ fn test(state: &[u64; STATE_LEN]) -> u64 {
 // What a letter asks for, once; the number given back, and 9 for another letter.
 fn run(state: &mut [u64; STATE_LEN], batch: &mut [u64; BATCH_LEN], letter: u8, j: u64) -> u64 {
     match letter {
-        b'f' => run_one(state, batch, j, true),
-        b'F' => run_many(state, batch, j, true),
-        b's' => run_one(state, batch, j, false),
-        b'S' => run_many(state, batch, j, false),
-        b'c' => test(state),
+        b'f' | b'g' => run_one(state, batch, j, true),
+        b'F' | b'G' => run_many(state, batch, j, true),
+        b's' | b't' => run_one(state, batch, j, false),
+        b'S' | b'T' => run_many(state, batch, j, false),
+        b'c' | b'd' => test(state),
         _ => 9,
     }
 }
@@ -115,7 +131,7 @@ pub fn run_all(
     letter: u8,
     count: u64,
 ) -> u64 {
-    set_up(state, batch, letter != b's' && letter != b'S');
+    set_up(state, batch, letter);
     let mut accepted: u64 = 0;
     let mut j = 0;
     while j < count {

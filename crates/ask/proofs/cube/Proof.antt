@@ -3,6 +3,7 @@ use native.Mathlib.Omega.{arith}
 use mathlib.Core.Bool.{true}
 use mathlib.Core.Path.{_≡_, _∙_, sym, ap}
 use borrow.Author.Needs.{needs}
+use Rattle.layout.specs.State.{decode}
 use Rattle.lists.specs.Told.{listingTold}
 use Rattle.component.specs.Stored.{stored}
 use Rattle.component.specs.Range.{cellInRange}
@@ -41,7 +42,7 @@ give-cube-requires c κs =
     let n = c .before .before in
     let a = n .before .before in
     let s = a .before .before .before .before .before in (
-      cells-here (n .count-at .result) (n .before .cell-words .result .now) (s .args .state .now) (sure a) (n .count-at .ensures) (n .before .cell-words .ensures),
+      (decode (s .args .state .now) .kind, cells-here (n .count-at .result) (n .before .cell-words .result .now) (s .args .state .now) (sure a) (n .count-at .ensures) (n .before .cell-words .ensures)),
       ap cellInRange (c .before .stored .ensures) ∙ ranged a,
       omega (arith, cells-few (s .args .state .now) (sure a), n .count-at .ensures),
     )

@@ -2,6 +2,7 @@
 use native.Mathlib.Omega.{arith}
 use mathlib.Core.Path.{_∙_, sym}
 use borrow.Author.Needs.{needs}
+use Rattle.layout.specs.State.{decode}
 use Rattle.floods.specs.Told.{floodingTold}
 use Rattle.ask.specs.Laws.Listings.{flood-refused, flood-answered}
 use Rattle.ask.specs.Laws.Words.{cells-here, cells-few}
@@ -35,7 +36,7 @@ give-flood-requires c κs =
     let n = c .before .before in
     let a = n .before .before in
     let s = a .before .before .before .before .before in (
-      cells-here (n .count-at .result) (n .before .cell-words .result .now) (s .args .state .now) (sure a) (n .count-at .ensures) (n .before .cell-words .ensures),
+      (decode (s .args .state .now) .kind, cells-here (n .count-at .result) (n .before .cell-words .result .now) (s .args .state .now) (sure a) (n .count-at .ensures) (n .before .cell-words .ensures)),
       omega (arith, cells-few (s .args .state .now) (sure a), n .count-at .ensures),
     )
 
@@ -50,7 +51,7 @@ returns-2 c =
     let a = n .before .before in
     let s = a .before .before .before .before .before in
     flood-answered (s .args .state .now) (s .args .seed) (s .args .answer .now) (a .before .before .cell-refused .result) (a .before .before .cell-refused .ensures) (s .args .depth) (s .args .budget) (a .if1 .left)
-    (n .count-at .result) (n .before .cell-words .result .now) (t .stored .result) (floodingTold (g .give-flood .result), g .give-flood .last .1 .1 .1 .1 .1 .0) (n .count-at .ensures) (n .before .cell-words .ensures) (t .stored .ensures) (g .give-flood .ensures)
+    (n .count-at .result) (n .before .cell-words .result .now) (t .stored .result) (floodingTold (g .give-flood .result), g .give-flood .last .1 .1 .1 .1 .1 .0) (n .count-at .ensures) (n .before .cell-words .ensures) (t .stored .ensures) (g .give-flood .ensures (decode (s .args .state .now) .kind) (cells-here (n .count-at .result) (n .before .cell-words .result .now) (s .args .state .now) (sure a) (n .count-at .ensures) (n .before .cell-words .ensures)))
 
 pub flood-spec : {M : Type 1} → statement M
 flood-spec =

@@ -2,6 +2,7 @@
 use native.Mathlib.Omega.{arith}
 use mathlib.Core.Path.{_∙_, sym}
 use borrow.Author.Needs.{needs}
+use Rattle.layout.specs.State.{decode}
 use Rattle.lists.specs.Told.{listingTold}
 use Rattle.ask.specs.Laws.Listings.{nearby-refused, nearby-answered}
 use Rattle.ask.specs.Laws.Words.{cells-here}
@@ -35,7 +36,7 @@ give-nearby-requires c κs =
     let n = c .before .before in
     let a = n .before .before in
     let s = a .before .before .before .before .before in
-    cells-here (n .count-at .result) (n .before .cell-words .result .now) (s .args .state .now) (sure a) (n .count-at .ensures) (n .before .cell-words .ensures)
+    (decode (s .args .state .now) .kind, cells-here (n .count-at .result) (n .before .cell-words .result .now) (s .args .state .now) (sure a) (n .count-at .ensures) (n .before .cell-words .ensures))
 
 same-length : tie.Need-same-length
 same-length c = search needs
@@ -48,7 +49,7 @@ returns-2 c =
     let a = n .before .before in
     let s = a .before .before .before .before .before in
     nearby-answered (s .args .state .now) (s .args .cell) (s .args .answer .now) (a .before .before .cell-refused .result) (a .before .before .cell-refused .ensures) (a .if1 .left)
-    (n .count-at .result) (n .before .cell-words .result .now) (t .stored .result) (listingTold (g .give-nearby .result), g .give-nearby .last .1 .1 .1 .0) (n .count-at .ensures) (n .before .cell-words .ensures) (t .stored .ensures) (g .give-nearby .ensures)
+    (n .count-at .result) (n .before .cell-words .result .now) (t .stored .result) (listingTold (g .give-nearby .result), g .give-nearby .last .1 .1 .1 .0) (n .count-at .ensures) (n .before .cell-words .ensures) (t .stored .ensures) (g .give-nearby .ensures (decode (s .args .state .now) .kind) (cells-here (n .count-at .result) (n .before .cell-words .result .now) (s .args .state .now) (sure a) (n .count-at .ensures) (n .before .cell-words .ensures)))
 
 pub nearby-spec : {M : Type 1} → statement M
 nearby-spec =

@@ -2,6 +2,7 @@
 use native.Mathlib.Omega.{arith}
 use mathlib.Core.Path.{_∙_, sym}
 use borrow.Author.Needs.{needs}
+use Rattle.layout.specs.State.{decode}
 use Rattle.lists.specs.Told.{listingTold}
 use Rattle.ask.specs.Laws.Listings.{path-refused, path-answered}
 use Rattle.ask.specs.Laws.Words.{cells-here, cells-few}
@@ -38,7 +39,7 @@ give-path-requires c κs =
     let n = c .before .before .before in
     let a = n .before .before in
     let s = a .before .before .before .before .before in (
-      cells-here (n .count-at .result) (n .before .cell-words .result .now) (s .args .state .now) (sure a) (n .count-at .ensures) (n .before .cell-words .ensures),
+      (decode (s .args .state .now) .kind, cells-here (n .count-at .result) (n .before .cell-words .result .now) (s .args .state .now) (sure a) (n .count-at .ensures) (n .before .cell-words .ensures)),
       omega (arith, cells-few (s .args .state .now) (sure a), n .count-at .ensures),
     )
 
@@ -53,7 +54,7 @@ returns-2 c =
     let a = n .before .before in
     let s = a .before .before .before .before .before in
     path-answered (s .args .state .now) (s .args .from) (s .args .to) (s .args .answer .now) (a .before .before .cells-refused .result) (a .before .before .cells-refused .ensures) (a .if1 .left)
-    (n .count-at .result) (n .before .cell-words .result .now) (t .before .stored .result) (t .stored2 .result) (listingTold (g .give-path .result), g .give-path .last .1 .1 .1 .1 .0) (n .count-at .ensures) (n .before .cell-words .ensures) (t .before .stored .ensures) (t .stored2 .ensures) (g .give-path .ensures)
+    (n .count-at .result) (n .before .cell-words .result .now) (t .before .stored .result) (t .stored2 .result) (listingTold (g .give-path .result), g .give-path .last .1 .1 .1 .1 .0) (n .count-at .ensures) (n .before .cell-words .ensures) (t .before .stored .ensures) (t .stored2 .ensures) (g .give-path .ensures (decode (s .args .state .now) .kind) (cells-here (n .count-at .result) (n .before .cell-words .result .now) (s .args .state .now) (sure a) (n .count-at .ensures) (n .before .cell-words .ensures)))
 
 pub path-spec : {M : Type 1} → statement M
 path-spec =

@@ -10,10 +10,11 @@ use borrow.Author.Tests.{ne-eqb}
 use Rattle.component.specs.declared.CellId.{CellId}
 use Rattle.component.specs.Stored.{stored}
 use Rattle.model.specs.Lists.{any, has, keep, keys}
-use Rattle.model.specs.Cells.{Cell, same, touch26}
+use Rattle.model.specs.Cells.{Cell, same, touchAt}
 use Rattle.model.specs.Occupancy.{occupied}
 use Rattle.model.specs.Flood.{flood}
-use Rattle.model.specs.Questions.{Listed, idList, nearby, cube}
+use Rattle.model.specs.Update.{touchOf}
+use Rattle.model.specs.Questions.{Listed, idList, nearby, nearbyBy, cube}
 use Rattle.model.specs.Questions as question
 use Rattle.model.specs.Laws.Occupied.{occupied-stands}
 use Rattle.model.specs.Shortest.{shownPath}
@@ -76,7 +77,7 @@ some-kept p (x ∷ t) = go (p x) (some-kept p t)
 entities-asked : (w : List ℕ) → Sure w → (c : Cell) → anyOf (standingIn (decode w .occupancy .entities) c) ≡ question.entitiesIn (decode w) c
 entities-asked w sure c =
     let f : not (eqb (length (standingIn (decode w .occupancy .entities) c)) 0) ≡ has same (occupied (decode w .occupancy)) c =
-    some-kept (λ (p : ℕ × Cell). same c (p .1)) (decode w .occupancy .entities) ∙ occupied-stands touch26 (decode w .occupancy) (ok w sure .sound) c in
+    some-kept (λ (p : ℕ × Cell). same c (p .1)) (decode w .occupancy .entities) ∙ occupied-stands (touchOf (decode w)) (decode w .occupancy) (ok w sure .sound) c in
     λ i. record { found = f i; list = standingIn (decode w .occupancy .entities) c }
 
 module _ (w : List ℕ) (c : CellId) (answer : List ℕ) (no : Refusal) (e : no ≡ cellRefusal w c) where
@@ -101,14 +102,14 @@ module _ (w : List ℕ) (c : CellId) (answer : List ℕ) (no : Refusal) (e : no 
 
   pub nearby-refused : (no .number ≡ 0 → ⊥) → (refused no, answer) ≡ nearbyOf w c answer
   unfolding nearbyOf
-  nearby-refused h = refused-way no (cellRefusal w c) refuse-cell (listedCells (nearby touch26 (decode w) (stored c)) answer) e h
+  nearby-refused h = refused-way no (cellRefusal w c) refuse-cell (listedCells (nearby (decode w) (stored c)) answer) e h
 
   pub nearby-answered : no .number ≡ 0 → (n : ℕ) (rows : List ℕ) (d : Cell) (a : Told (Bool × ℕ) × List ℕ) → n ≡ cellCount w → rows ≡ cellWords w → d ≡ stored c
-      → a ≡ listedCells (nearby touch26 (having (cellsIn n rows)) d) answer → a ≡ nearbyOf w c answer
+      → a ≡ listedCells (nearbyBy (touchAt (decode w .kind)) (having (cellsIn n rows)) d) answer → a ≡ nearbyOf w c answer
   unfolding nearbyOf decode
   nearby-answered h n rows d a p q s f =
-      answered-way no (cellRefusal w c) refuse-cell (listedCells (nearby touch26 (decode w) (stored c)) answer) e h a
-      (f ∙ (λ i. listedCells (nearby touch26 (having (cellsIn (p i) (q i))) (s i)) answer))
+      answered-way no (cellRefusal w c) refuse-cell (listedCells (nearby (decode w) (stored c)) answer) e h a
+      (f ∙ (λ i. listedCells (nearbyBy (touchAt (decode w .kind)) (having (cellsIn (p i) (q i))) (s i)) answer))
 
   pub cube-refused : (r : ℕ) → (no .number ≡ 0 → ⊥) → (refused no, answer) ≡ cubeOf w c r answer
   unfolding cubeOf
@@ -129,29 +130,29 @@ module _ (w : List ℕ) (c : CellId) (answer : List ℕ) (no : Refusal) (e : no 
     unfolding floodOf
     flood-refused h =
         refused-way no (cellRefusal w c) refuse-flood
-        (flooded (has same (occupied (decode w .occupancy)) (stored c)) (flood touch26 (decode w .occupancy) (stored c) (depthOf depth) budget) answer) e h
+        (flooded (has same (occupied (decode w .occupancy)) (stored c)) (flood (touchOf (decode w)) (decode w .occupancy) (stored c) (depthOf depth) budget) answer) e h
 
     pub flood-answered : no .number ≡ 0 → (n : ℕ) (rows : List ℕ) (d : Cell) (a : Told (Bool × Visited) × List ℕ) → n ≡ cellCount w → rows ≡ cellWords w → d ≡ stored c
-        → a ≡ flooded (has same (keys (cellsIn n rows)) d) (flood touch26 (having (cellsIn n rows) .occupancy) d (depthOf depth) budget) answer → a ≡ floodOf w c depth budget answer
+        → a ≡ flooded (has same (keys (cellsIn n rows)) d) (flood (touchAt (decode w .kind)) (having (cellsIn n rows) .occupancy) d (depthOf depth) budget) answer → a ≡ floodOf w c depth budget answer
     unfolding floodOf decode
     flood-answered h n rows d a p q s f =
         answered-way no (cellRefusal w c) refuse-flood
-        (flooded (has same (occupied (decode w .occupancy)) (stored c)) (flood touch26 (decode w .occupancy) (stored c) (depthOf depth) budget) answer) e h a
-        (f ∙ (λ i. flooded (has same (keys (cellsIn (p i) (q i))) (s i)) (flood touch26 (having (cellsIn (p i) (q i)) .occupancy) (s i) (depthOf depth) budget) answer))
+        (flooded (has same (occupied (decode w .occupancy)) (stored c)) (flood (touchOf (decode w)) (decode w .occupancy) (stored c) (depthOf depth) budget) answer) e h a
+        (f ∙ (λ i. flooded (has same (keys (cellsIn (p i) (q i))) (s i)) (flood (touchAt (decode w .kind)) (having (cellsIn (p i) (q i)) .occupancy) (s i) (depthOf depth) budget) answer))
 
 module _ (w : List ℕ) (a b : CellId) (answer : List ℕ) (no : Refusal) (e : no ≡ cellsRefusal w a b) where
   abbrev refuse-path : Refusal → Told (Bool × ℕ) × List ℕ
   refuse-path k = (refused k, answer)
 
   abbrev shown : Told (Bool × ℕ) × List ℕ
-  shown = pathFrom (shownPath touch26 (occupied (decode w .occupancy)) (stored a) (stored b)) answer
+  shown = pathFrom (shownPath (touchOf (decode w)) (occupied (decode w .occupancy)) (stored a) (stored b)) answer
 
   pub path-refused : (no .number ≡ 0 → ⊥) → (refused no, answer) ≡ pathOf w a b answer
   unfolding pathOf
   path-refused h = refused-way no (cellsRefusal w a b) refuse-path shown e h
 
   pub path-answered : no .number ≡ 0 → (n : ℕ) (rows : List ℕ) (c d : Cell) (r : Told (Bool × ℕ) × List ℕ) → n ≡ cellCount w → rows ≡ cellWords w → c ≡ stored a → d ≡ stored b
-      → r ≡ pathFrom (shownPath touch26 (keys (cellsIn n rows)) c d) answer → r ≡ pathOf w a b answer
+      → r ≡ pathFrom (shownPath (touchAt (decode w .kind)) (keys (cellsIn n rows)) c d) answer → r ≡ pathOf w a b answer
   unfolding pathOf decode
   path-answered h n rows c d r p q s t f =
-      answered-way no (cellsRefusal w a b) refuse-path shown e h r (f ∙ (λ i. pathFrom (shownPath touch26 (keys (cellsIn (p i) (q i))) (s i) (t i)) answer))
+      answered-way no (cellsRefusal w a b) refuse-path shown e h r (f ∙ (λ i. pathFrom (shownPath (touchAt (decode w .kind)) (keys (cellsIn (p i) (q i))) (s i) (t i)) answer))

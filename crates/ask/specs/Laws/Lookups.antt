@@ -1,6 +1,6 @@
 -- The answers of the lookups, by what is read of the words.
 use Prim.Native.Nat.{ℕ}
-use mathlib.Core.Path.{_≡_, _∙_}
+use mathlib.Core.Path.{_≡_, ap, _∙_}
 use mathlib.Core.List.{List}
 use lib.Dec.{eqb}
 use mathlib.Core.Option.{Option}
@@ -11,6 +11,7 @@ use Rattle.model.specs.Cells.{Cell, same}
 use Rattle.model.specs.Questions.{whereIs, groupBy, onesOf, neighbourCount}
 use Rattle.model.specs.Questions as question
 use Rattle.layout.specs.Rows.{entitiesIn, cellsIn, idsIn, groupsIn}
+use Rattle.layout.specs.State as layout
 use Rattle.layout.specs.State.{decode, entityWords, cellWords, idWords, groupWords, entityCount, cellCount, idCount, groupCount}
 use Rattle.refusal.specs.declared.Refusal.{Refusal}
 use Rattle.told.specs.Told.{Told, done, refused, seen}
@@ -18,7 +19,16 @@ use Rattle.told.specs.Laws.Ways.{refused-way, answered-way}
 use Rattle.lookups.specs.declared.Shown.{Shown}
 use Rattle.lookups.specs.Told.{shownOf}
 use Rattle.consistent.specs.Answer.{stateRefusal}
-use Rattle.ask.specs.Answers.{cellRefusal, whereOf, idOf, countOf, groupOf}
+use Rattle.ask.specs.Answers.{cellRefusal, kindOf, whereOf, idOf, countOf, groupOf}
+
+module _ (w : List ℕ) (no : Refusal) (e : no ≡ stateRefusal w) where
+  pub kind-refused : (no .number ≡ 0 → ⊥) → refused no ≡ kindOf w
+  unfolding kindOf
+  kind-refused h = refused-way no (stateRefusal w) refused (done (decode w .kind)) e h
+
+  pub kind-answered : no .number ≡ 0 → (k : ℕ) → k ≡ layout.kindOf w → done k ≡ kindOf w
+  unfolding kindOf decode
+  kind-answered h k p = answered-way no (stateRefusal w) refused (done (decode w .kind)) e h (done k) (ap done p)
 
 module _ (w : List ℕ) (k : ℕ) (no : Refusal) (e : no ≡ stateRefusal w) where
   pub where-refused : (no .number ≡ 0 → ⊥) → refused no ≡ whereOf w k

@@ -9,16 +9,17 @@ use lib.ListN.{length, drop, take-append-drop}
 use borrow.Author.Tests.{leb-true, le-leb}
 use Rattle.component.specs.Laws.Tests.{both}
 use Rattle.model.specs.Lists.{keys, values, isAscending}
-use Rattle.model.specs.Cells.{Cell, below, touch26}
+use Rattle.model.specs.Cells.{Cell, below}
 use Rattle.model.specs.Groups.{Group, records}
-use Rattle.model.specs.Update.{mostEntities, mostCells}
-use Rattle.model.specs.Laws.Tests.{T-true, true-of}
+use Rattle.model.specs.Update.{mostEntities, mostCells, touchOf}
+use Rattle.model.specs.Consistent.{consistentBy, kindKnown}
+use Rattle.model.specs.Laws.Tests.{T-true, true-of, and-snd}
 use Rattle.model.specs.Laws.Orders.{numbers}
 use Rattle.model.specs.Laws.Members.{each-each}
 use Rattle.model.specs.Laws.Sorted.{Asc, isAscending-in, ascending-asc}
 use Rattle.model.specs.Laws.Records.{records-keys}
 use Rattle.model.specs.Laws.Occupied.{occupied-asc}
-use Rattle.model.specs.Laws.Touching.{touching-26}
+use Rattle.model.specs.Laws.Kinds.{kind-touching}
 use Rattle.model.specs.Laws.Consistency.{Ok, ok-out, ids-asc}
 use Rattle.table.specs.Rows.{Kind, number, cell, tableOf, isTableOf, isTable1, isTable4, table1, table4, areZero}
 use Rattle.layout.specs.Widths.{entityWidth, cellWidth, netWidth, idWidth, groupWidth}
@@ -45,8 +46,8 @@ module _ (w : List ℕ) (sure : Sure w) where
   orderly = orderly-out w (sure .good)
 
   -- The state that they stand for is consistent.
-  pub ok : Ok touch26 (decode w)
-  ok = ok-out touch26 (touching-26 .flip) (decode w) (T-true (orderly .yard))
+  pub ok : Ok (touchOf (decode w)) (decode w)
+  ok = ok-out (touchOf (decode w)) (kind-touching (decode w .kind) .flip) (decode w) (and-snd (kindKnown (decode w)) (consistentBy (touchOf (decode w)) (decode w)) (T-true (orderly .yard)))
 
   -- They begin with its image.
   stands : BeginsWith (decode w) w
@@ -69,7 +70,7 @@ module _ (w : List ℕ) (sure : Sure w) where
   ids-table =
       table-by cell idWidth mostCells (idCount w) (idWords w) (omega arith) (orderly .id-rows)
       (λ h. omega (arith, ids-room (idCount w) h, ids-long w (sure .long)))
-      (subst (Asc below) (each-each (λ (p : Cell × ℕ). p .0) idOf (table4 idWidth (idCount w) (idWords w))) (ids-asc touch26 (decode w) ok))
+      (subst (Asc below) (each-each (λ (p : Cell × ℕ). p .0) idOf (table4 idWidth (idCount w) (idWords w))) (ids-asc (touchOf (decode w)) (decode w) ok))
 
   records-asc : Asc ltb (keys (decode w .records))
   records-asc =
@@ -111,20 +112,20 @@ module _ (w : List ℕ) (sure : Sure w) where
   unfolding decode
   masks-are = refl
 
-  cells-of-state : Cells (cellWords w) (cellCount w) (decode w .occupancy .masks)
+  cells-of-state : Cells (decode w .kind) (cellWords w) (cellCount w) (decode w .occupancy .masks)
   cells-of-state =
       record {
         image = stands .cell-words ∙ ap (λ (n : ℕ). cellsImage n (decode w .occupancy .masks)) (sym (cells-long w (sure .long)));
         number = stands .cell-count;
         fits = omega (arith, cells-room (cellCount w) cells-few, cells-long w (sure .long));
-        asc = occupied-asc touch26 (decode w .occupancy) (ok .sound);
+        asc = occupied-asc (touchOf (decode w)) (decode w .occupancy) (ok .sound);
         exact = ok .sound .exact;
       }
 
   -- The occupied cells stand in their words.
-  pub cells-stand : Cells (cellWords w) (cellCount w) (cellsIn (cellCount w) (cellWords w))
-  cells-stand = subst (Cells (cellWords w) (cellCount w)) masks-are cells-of-state
+  pub cells-stand : Cells (decode w .kind) (cellWords w) (cellCount w) (cellsIn (cellCount w) (cellWords w))
+  cells-stand = subst (Cells (decode w .kind) (cellWords w) (cellCount w)) masks-are cells-of-state
 
 -- The occupied cells stand in words that are theirs.
-pub cells-here : (n : ℕ) (rows w : List ℕ) → Sure w → n ≡ cellCount w → rows ≡ cellWords w → Cells rows n (cellsIn n rows)
-cells-here n rows w sure p q = subst₂ (λ (m : ℕ) (s : List ℕ). Cells s m (cellsIn m s)) (sym p) (sym q) (cells-stand w sure)
+pub cells-here : (n : ℕ) (rows w : List ℕ) → Sure w → n ≡ cellCount w → rows ≡ cellWords w → Cells (decode w .kind) rows n (cellsIn n rows)
+cells-here n rows w sure p q = subst₂ (λ (m : ℕ) (s : List ℕ). Cells (decode w .kind) s m (cellsIn m s)) (sym p) (sym q) (cells-stand w sure)

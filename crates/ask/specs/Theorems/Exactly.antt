@@ -12,9 +12,10 @@ use Rattle.component.specs.Stored.{stored, cellId}
 use Rattle.refusal.specs.declared.Refusal.{Refusal}
 use Rattle.refusal.specs.Forms as form
 use Rattle.model.specs.Lists.{has, gather}
-use Rattle.model.specs.Cells.{Cell, same, touch26}
+use Rattle.model.specs.Cells.{Cell, same}
 use Rattle.model.specs.Occupancy.{occupied}
 use Rattle.model.specs.Flood.{flood}
+use Rattle.model.specs.Update.{touchOf}
 use Rattle.model.specs.Questions.{whereIs, neighbourCount, groupBy, entitiesIn, idList, nearby, cube}
 use Rattle.model.specs.Questions as question
 use Rattle.model.specs.Shortest.{shownPath}
@@ -29,8 +30,12 @@ use Rattle.lists.specs.Told.{pathFrom, isShown}
 use Rattle.floods.specs.declared.Depth.{Depth}
 use Rattle.floods.specs.Told.{visited, depthOf}
 use Rattle.consistent.specs.Answer.{stateRefusal}
-use Rattle.ask.specs.Answers.{cellRefusal, cellsRefusal, whereOf, idOf, countOf, groupOf, idsOf, occupiedOf, emptiedOf, entitiesOf, nearbyOf, cubeOf, floodOf, pathOf}
+use Rattle.ask.specs.Answers.{cellRefusal, cellsRefusal, kindOf, whereOf, idOf, countOf, groupOf, idsOf, occupiedOf, emptiedOf, entitiesOf, nearbyOf, cubeOf, floodOf, pathOf}
 use Rattle.ask.specs.Laws.Told.{by-cell, lookup-exactly, cell-exactly, list-exactly, cell-list-exactly}
+
+pub kind-exactly : (w : List ℕ) → Exactly (kindOf w .number) (longEnough w) (consistentWords w) true false
+unfolding kindOf
+kind-exactly w = lookup-exactly w (decode w .kind)
 
 pub where-exactly : (w : List ℕ) (e : ℕ) → Exactly (whereOf w e .number) (longEnough w) (consistentWords w) true false
 unfolding whereOf
@@ -66,9 +71,9 @@ unfolding entitiesOf
 entities-exactly w c answer = let l = entitiesIn (decode w) (stored c) in cell-list-exactly w c (l .found, length (l .list)) (l .list) answer
 
 pub nearby-exactly : (w : List ℕ) (c : CellId) (answer : List ℕ)
-    → Exactly (nearbyOf w c answer .0 .number) (longEnough w) (consistentWords w) (coordInRange (c .coord)) (ltb (length answer) (length (gather answerWords (nearby touch26 (decode w) (stored c) .list))))
+    → Exactly (nearbyOf w c answer .0 .number) (longEnough w) (consistentWords w) (coordInRange (c .coord)) (ltb (length answer) (length (gather answerWords (nearby (decode w) (stored c) .list))))
 unfolding nearbyOf
-nearby-exactly w c answer = let l = nearby touch26 (decode w) (stored c) in cell-list-exactly w c (l .found, length (l .list)) (gather answerWords (l .list)) answer
+nearby-exactly w c answer = let l = nearby (decode w) (stored c) in cell-list-exactly w c (l .found, length (l .list)) (gather answerWords (l .list)) answer
 
 pub cube-exactly : (w : List ℕ) (c : CellId) (r : ℕ) (answer : List ℕ)
     → Exactly (cubeOf w c r answer .0 .number) (longEnough w) (consistentWords w) (coordInRange (c .coord)) (ltb (length answer) (length (gather answerWords (cube (decode w) (stored c) r .list))))
@@ -76,16 +81,16 @@ unfolding cubeOf
 cube-exactly w c r answer = let l = cube (decode w) (stored c) r in cell-list-exactly w c (l .found, length (l .list)) (gather answerWords (l .list)) answer
 
 pub flood-exactly : (w : List ℕ) (c : CellId) (depth : Depth) (budget : ℕ) (answer : List ℕ)
-    → Exactly (floodOf w c depth budget answer .0 .number) (longEnough w) (consistentWords w) (coordInRange (c .coord)) (ltb (length answer) (length (gather answerWords (flood touch26 (decode w .occupancy) (stored c) (depthOf depth) budget .cells))))
+    → Exactly (floodOf w c depth budget answer .0 .number) (longEnough w) (consistentWords w) (coordInRange (c .coord)) (ltb (length answer) (length (gather answerWords (flood (touchOf (decode w)) (decode w .occupancy) (stored c) (depthOf depth) budget .cells))))
 unfolding floodOf
 flood-exactly w c depth budget answer =
-    let f = flood touch26 (decode w .occupancy) (stored c) (depthOf depth) budget in
+    let f = flood (touchOf (decode w)) (decode w .occupancy) (stored c) (depthOf depth) budget in
     cell-list-exactly w c (has same (occupied (decode w .occupancy)) (stored c), visited f) (gather answerWords (f .cells)) answer
 
 module _ (w : List ℕ) (a b : CellId) (answer : List ℕ) where
   -- The path that is asked for.
   abbrev pub asked : Option (List Cell)
-  asked = shownPath touch26 (occupied (decode w .occupancy)) (stored a) (stored b)
+  asked = shownPath (touchOf (decode w)) (occupied (decode w .occupancy)) (stored a) (stored b)
 
   -- Whether its words are more than the slice has.
   abbrev pub overlong : Bool

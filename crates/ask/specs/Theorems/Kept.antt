@@ -9,9 +9,10 @@ use lib.ListN.{length, drop}
 use Rattle.component.specs.declared.CellId.{CellId}
 use Rattle.component.specs.Stored.{stored}
 use Rattle.model.specs.Lists.{has, gather}
-use Rattle.model.specs.Cells.{Cell, same, touch26}
+use Rattle.model.specs.Cells.{Cell, same}
 use Rattle.model.specs.Occupancy.{occupied}
 use Rattle.model.specs.Flood.{flood}
+use Rattle.model.specs.Update.{touchOf}
 use Rattle.model.specs.Questions.{entitiesIn, idList, nearby, cube}
 use Rattle.model.specs.Shortest.{shownPath}
 use Rattle.model.specs.Laws.Tests.{T-false}
@@ -44,7 +45,7 @@ module _ (w : List ℕ) (c : CellId) (answer : List ℕ) where
 
   pub nearby-kept : eqb (nearbyOf w c answer .0 .number) 0 ≡ false → nearbyOf w c answer .1 ≡ answer
   unfolding nearbyOf
-  nearby-kept = let l = nearby touch26 (decode w) (stored c) in list-kept (cellRefusal w c) (l .found, length (l .list)) (gather answerWords (l .list)) answer
+  nearby-kept = let l = nearby (decode w) (stored c) in list-kept (cellRefusal w c) (l .found, length (l .list)) (gather answerWords (l .list)) answer
 
   pub cube-kept : (r : ℕ) → eqb (cubeOf w c r answer .0 .number) 0 ≡ false → cubeOf w c r answer .1 ≡ answer
   unfolding cubeOf
@@ -53,13 +54,13 @@ module _ (w : List ℕ) (c : CellId) (answer : List ℕ) where
   pub flood-kept : (depth : Depth) (budget : ℕ) → eqb (floodOf w c depth budget answer .0 .number) 0 ≡ false → floodOf w c depth budget answer .1 ≡ answer
   unfolding floodOf
   flood-kept depth budget =
-      let f = flood touch26 (decode w .occupancy) (stored c) (depthOf depth) budget in
+      let f = flood (touchOf (decode w)) (decode w .occupancy) (stored c) (depthOf depth) budget in
       list-kept (cellRefusal w c) (has same (occupied (decode w .occupancy)) (stored c), visited f) (gather answerWords (f .cells)) answer
 
 module _ (w : List ℕ) (a b : CellId) (answer : List ℕ) where
   pub path-kept : eqb (pathOf w a b answer .0 .number) 0 ≡ false → pathOf w a b answer .1 ≡ answer
   unfolding pathOf fitted
-  path-kept = go (eqb (cellsRefusal w a b .number) 0) (shownPath touch26 (occupied (decode w .occupancy)) (stored a) (stored b))
+  path-kept = go (eqb (cellsRefusal w a b .number) 0) (shownPath (touchOf (decode w)) (occupied (decode w .occupancy)) (stored a) (stored b))
     where
       given : List Cell → Bool → Told (Bool × ℕ) × List ℕ
       given p t = cond t (tooLong (length (gather answerWords p)), answer) (done (true, length p), gather answerWords p ++ drop (length (gather answerWords p)) answer)

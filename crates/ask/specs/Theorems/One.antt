@@ -7,13 +7,14 @@ use lib.IntN.{ℤ}
 use Rattle.component.specs.declared.CellId.{CellId}
 use Rattle.told.specs.Told.{Told}
 use Rattle.told.specs.Laws.One.{one-answer, one-told, one-filled}
+use Rattle.lookups.specs.declared.KindOf.{KindOf}
 use Rattle.lookups.specs.declared.Where.{Where}
 use Rattle.lookups.specs.declared.IdOf.{IdOf}
 use Rattle.lookups.specs.declared.CountOf.{CountOf}
 use Rattle.lookups.specs.declared.Shown.{Shown}
 use Rattle.lookups.specs.declared.GroupOf.{GroupOf}
-use Rattle.lookups.specs.Told.{whereTold, idTold, countTold, groupTold, cornersOf}
-use Rattle.lookups.specs.Laws.Back.{whereBack, idBack, countBack, groupBack, where-back, id-back, count-back, group-back}
+use Rattle.lookups.specs.Told.{kindTold, whereTold, idTold, countTold, groupTold, cornersOf}
+use Rattle.lookups.specs.Laws.Back.{kindBack, whereBack, idBack, countBack, groupBack, kind-back, where-back, id-back, count-back, group-back}
 use Rattle.lists.specs.declared.Listing.{Listing}
 use Rattle.lists.specs.Told.{listingTold}
 use Rattle.lists.specs.Laws.Back.{listingBack, listing-back}
@@ -22,9 +23,12 @@ use Rattle.floods.specs.declared.Visited.{Visited}
 use Rattle.floods.specs.declared.Flooding.{Flooding}
 use Rattle.floods.specs.Told.{floodingTold}
 use Rattle.floods.specs.Laws.Back.{floodingBack, flooding-back}
-use Rattle.ask.specs.Answers.{whereOf, idOf, countOf, groupOf, idsOf, occupiedOf, emptiedOf, entitiesOf, nearbyOf, cubeOf, floodOf, pathOf}
+use Rattle.ask.specs.Answers.{kindOf, whereOf, idOf, countOf, groupOf, idsOf, occupiedOf, emptiedOf, entitiesOf, nearbyOf, cubeOf, floodOf, pathOf}
 
 module _ (w : List ℕ) where
+  pub kind-one : (r s : KindOf) → kindTold r ≡ kindOf w → kindTold s ≡ kindOf w → r ≡ s
+  kind-one r s = one-told kindTold kindBack kind-back r s (kindOf w)
+
   pub where-one : (e : ℕ) (r s : Where) → whereTold r ≡ whereOf w e → whereTold s ≡ whereOf w e → r ≡ s
   where-one e r s = one-told whereTold whereBack where-back r s (whereOf w e)
 

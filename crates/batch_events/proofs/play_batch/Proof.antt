@@ -16,14 +16,14 @@ use Rattle.batch_events.proofs.play_batch.Statement.{statement}
 use Rattle.batch_events.proofs.play_batch.Tie as tie
 
 abbrev Inv-loop : tie.InvT-loop
-Inv-loop ents₀ cells₀ crowd₀ occ₀ emp₀ batch removals moves end c₀ i₀ ents cells crowd occ emp c i =
+Inv-loop ents₀ cells₀ crowd₀ occ₀ emp₀ batch kind removals moves end c₀ i₀ ents cells crowd occ emp c i =
     (i ≤ removals + moves)
     × ((length ents ≡ length ents₀) × (length cells ≡ length cells₀) × (length crowd ≡ length crowd₀) × (length occ ≡ length occ₀) × (length emp ≡ length emp₀))
-    × ((was : List Cell) (o : Occupancy) → Ready ents₀ cells₀ crowd₀ occ₀ emp₀ c₀ was o
-    → Going ents cells crowd occ emp c was o (events (batchOf batch removals moves)) (eventsLeft batch removals moves i))
+    × ((was : List Cell) (o : Occupancy) → Ready kind ents₀ cells₀ crowd₀ occ₀ emp₀ c₀ was o
+    → Going kind ents cells crowd occ emp c was o (events (batchOf batch removals moves)) (eventsLeft batch removals moves i))
 
 abbrev μ-loop : tie.MeasureT-loop
-μ-loop ents₀ cells₀ crowd₀ occ₀ emp₀ batch removals moves end c₀ i₀ ents cells crowd occ emp c i = removals + moves - i
+μ-loop ents₀ cells₀ crowd₀ occ₀ emp₀ batch kind removals moves end c₀ i₀ ents cells crowd occ emp c i = removals + moves - i
 
 add-end : tie.Need-add-end Inv-loop μ-loop
 add-end c = search needs

@@ -8,7 +8,7 @@ use lib.Dec.{ltb}
 use lib.ListN.{length}
 use borrow.Author.Tests.{ltb-false}
 use Rattle.model.specs.Lists.{run, has}
-use Rattle.model.specs.Cells.{Cell, same, below, touch26}
+use Rattle.model.specs.Cells.{Cell, same, below, touchAt}
 use Rattle.model.specs.Occupancy.{Occupancy, Event, occupied, play}
 use Rattle.model.specs.Update.{mostEntities, mostCells, tooManyEntities, tooManyCells, brokenBy}
 use Rattle.model.specs.Laws.Members.{keep-shorter}
@@ -22,13 +22,13 @@ use Rattle.batch_events.specs.declared.Played.{Played}
 use Rattle.batch_events.specs.Playing.{judged, Roomy, Ready, Going, Outcome}
 
 -- The net lists stay the difference with an event.
-play-net : (was : List Cell) → Asc below was → (o : Occupancy) → Sound touch26 o → Net was o → (ev : Event) → Net was (play touch26 o ev)
-play-net was asc o ok net ev =
-    events-keep touch26 (λ p. Sound touch26 p × Net was p) (λ p. Unit {0})
-    (λ p q x h u. (pass-sound touch26 p q (x .0) h, pass-net touch26 was asc p q (x .0) (x .1) h))
+play-net : (kind : ℕ) (was : List Cell) → Asc below was → (o : Occupancy) → Sound (touchAt kind) o → Net was o → (ev : Event) → Net was (play (touchAt kind) o ev)
+play-net kind was asc o ok net ev =
+    events-keep (touchAt kind) (λ p. Sound (touchAt kind) p × Net was p) (λ p. Unit {0})
+    (λ p q x h u. (pass-sound (touchAt kind) p q (x .0) h, pass-net (touchAt kind) was asc p q (x .0) (x .1) h))
     o (ev ∷ []) (λ p m. tt) (ok, net) .1
 
-module _ {ents cells crowd occ emp : List ℕ} {n : Counts} {was : List Cell} {o : Occupancy} (r : Ready ents cells crowd occ emp n was o) where
+module _ {kind : ℕ} {ents cells crowd occ emp : List ℕ} {n : Counts} {was : List Cell} {o : Occupancy} (r : Ready kind ents cells crowd occ emp n was o) where
   -- The newly occupied cells are no more than the occupied.
   opened-few : length (o .newlyOccupied) ≤ mostCells
   opened-few =
@@ -57,12 +57,12 @@ module _ {ents cells crowd occ emp : List ℕ} {n : Counts} {was : List Cell} {o
       }
 
   -- All events are left.
-  pub going-start : (es left : List Event) → es ≡ left → Going ents cells crowd occ emp n was o es left
-  going-start es left e = record { at = o; ready = r; broken = ap (brokenBy touch26 o) e; ends = ap (run (play touch26) o) e }
+  pub going-start : (es left : List Event) → es ≡ left → Going kind ents cells crowd occ emp n was o es left
+  going-start es left e = record { at = o; ready = r; broken = ap (brokenBy (touchAt kind) o) e; ends = ap (run (play (touchAt kind)) o) e }
 
 -- What is left, said in another way.
-pub going-at : {ents cells crowd occ emp : List ℕ} {n : Counts} {was : List Cell} {o : Occupancy} {es left left′ : List Event} → left ≡ left′ → Going ents cells crowd occ emp n was o es left → Going ents cells crowd occ emp n was o es left′
-going-at e g = record { at = g .at; ready = g .ready; broken = g .broken ∙ ap (brokenBy touch26 (g .at)) e; ends = g .ends ∙ ap (run (play touch26) (g .at)) e }
+pub going-at : {kind : ℕ} {ents cells crowd occ emp : List ℕ} {n : Counts} {was : List Cell} {o : Occupancy} {es left left′ : List Event} → left ≡ left′ → Going kind ents cells crowd occ emp n was o es left → Going kind ents cells crowd occ emp n was o es left′
+going-at {kind} e g = record { at = g .at; ready = g .ready; broken = g .broken ∙ ap (brokenBy (touchAt kind) (g .at)) e; ends = g .ends ∙ ap (run (play (touchAt kind)) (g .at)) e }
 
 -- Room is a matter of lengths.
 roomy-kept : (ents cells crowd occ emp ents′ cells′ crowd′ occ′ emp′ : List ℕ) → length ents′ ≡ length ents → length cells′ ≡ length cells → length crowd′ ≡ length crowd → length occ′ ≡ length occ → length emp′ ≡ length emp
@@ -87,10 +87,10 @@ stop-first true b m k e f = e
 stop-first false true m k e f = e
 stop-first false false m k e f = absurd (f e)
 
-module _ {ents cells crowd occ emp : List ℕ} {n : Counts} {was : List Cell} {o : Occupancy} {es : List Event} (ev : Event) (left : List Event) (g : Going ents cells crowd occ emp n was o es (ev ∷ left))
-    (ents′ cells′ crowd′ occ′ emp′ : List ℕ) (n′ : Counts) (h : Held ents′ cells′ crowd′ occ′ emp′ n′ (play touch26 (g .at) ev)) where
+module _ {kind : ℕ} {ents cells crowd occ emp : List ℕ} {n : Counts} {was : List Cell} {o : Occupancy} {es : List Event} (ev : Event) (left : List Event) (g : Going kind ents cells crowd occ emp n was o es (ev ∷ left))
+    (ents′ cells′ crowd′ occ′ emp′ : List ℕ) (n′ : Counts) (h : Held kind ents′ cells′ crowd′ occ′ emp′ n′ (play (touchAt kind) (g .at) ev)) where
   abbrev after : Occupancy
-  after = play touch26 (g .at) ev
+  after = play (touchAt kind) (g .at) ev
 
   judged-is : judged n′ ≡ cond (tooManyEntities after) 6 (cond (tooManyCells after) 7 0)
   unfolding judged
@@ -98,15 +98,15 @@ module _ {ents cells crowd occ emp : List ℕ} {n : Counts} {was : List Cell} {o
       λ i. cond (ltb mostEntities (h .entities-count i)) 6 (cond (ltb mostCells ((h .stored .cells-count ∙ sym (keys-length (after .masks))) i)) 7 0)
 
   -- An event that breaks a limit decides.
-  pub going-stop : (k : ℕ) → k ≡ judged n′ → (k ≡ 0 → ⊥) → k ≡ brokenBy touch26 o es
+  pub going-stop : (k : ℕ) → k ≡ judged n′ → (k ≡ 0 → ⊥) → k ≡ brokenBy (touchAt kind) o es
   going-stop k e f =
-      stop-first (tooManyEntities after) (tooManyCells after) (brokenBy touch26 after left) k (e ∙ judged-is) f ∙ sym (g .broken)
+      stop-first (tooManyEntities after) (tooManyCells after) (brokenBy (touchAt kind) after left) k (e ∙ judged-is) f ∙ sym (g .broken)
 
   -- An event that breaks none leaves the decision to the others.
   pub going-next : length ents′ ≡ length ents → length cells′ ≡ length cells → length crowd′ ≡ length crowd → length occ′ ≡ length occ → length emp′ ≡ length emp
-      → judged n′ ≡ 0 → Going ents′ cells′ crowd′ occ′ emp′ n′ was o es left
+      → judged n′ ≡ 0 → Going kind ents′ cells′ crowd′ occ′ emp′ n′ was o es left
   going-next a b c d e z =
-      let p = pass-both (tooManyEntities after) (tooManyCells after) (brokenBy touch26 after left) (sym judged-is ∙ z) in
+      let p = pass-both (tooManyEntities after) (tooManyCells after) (brokenBy (touchAt kind) after left) (sym judged-is ∙ z) in
       record {
         at = after;
         ready = record {
@@ -117,7 +117,7 @@ module _ {ents cells crowd occ emp : List ℕ} {n : Counts} {was : List Cell} {o
           };
           was-asc = g .ready .was-asc;
           was-few = g .ready .was-few;
-          net = play-net was (g .ready .was-asc) (g .at) (g .ready .held .placed .sound) (g .ready .net) ev;
+          net = play-net kind was (g .ready .was-asc) (g .at) (g .ready .held .placed .sound) (g .ready .net) ev;
           room = roomy-kept ents cells crowd occ emp ents′ cells′ crowd′ occ′ emp′ a b c d e (g .ready .room);
         };
         broken = g .broken ∙ p .2;
@@ -125,15 +125,15 @@ module _ {ents cells crowd occ emp : List ℕ} {n : Counts} {was : List Cell} {o
       }
 
 -- No event is left.
-pub going-end : {ents cells crowd occ emp : List ℕ} {n : Counts} {was : List Cell} {o : Occupancy} {es : List Event} (left : List Event) → left ≡ [] → Going ents cells crowd occ emp n was o es left
-    → (r : Played) → r .number ≡ 0 → r .counts ≡ n → Outcome ents cells crowd occ emp r was o es
-going-end {ents} {cells} {crowd} {occ} {emp} {n} {was} {o} {es} left e g r z q =
+pub going-end : {kind : ℕ} {ents cells crowd occ emp : List ℕ} {n : Counts} {was : List Cell} {o : Occupancy} {es : List Event} (left : List Event) → left ≡ [] → Going kind ents cells crowd occ emp n was o es left
+    → (r : Played) → r .number ≡ 0 → r .counts ≡ n → Outcome kind ents cells crowd occ emp r was o es
+going-end {kind} {ents} {cells} {crowd} {occ} {emp} {n} {was} {o} {es} left e g r z q =
     record {
-      number = z ∙ sym (g .broken ∙ ap (brokenBy touch26 (g .at)) e);
-      ready = λ k. subst (λ (m : Counts). Ready ents cells crowd occ emp m was (run (play touch26) o es)) (sym q)
-          (subst (λ (u : Occupancy). Ready ents cells crowd occ emp n was u) (sym (g .ends ∙ ap (run (play touch26) (g .at)) e)) (g .ready));
+      number = z ∙ sym (g .broken ∙ ap (brokenBy (touchAt kind) (g .at)) e);
+      ready = λ k. subst (λ (m : Counts). Ready kind ents cells crowd occ emp m was (run (play (touchAt kind)) o es)) (sym q)
+          (subst (λ (u : Occupancy). Ready kind ents cells crowd occ emp n was u) (sym (g .ends ∙ ap (run (play (touchAt kind)) (g .at)) e)) (g .ready));
     }
 
 -- An event, said in another way.
-pub held-event : {ents cells crowd occ emp : List ℕ} {n : Counts} (o : Occupancy) {e f : Event} → e ≡ f → Held ents cells crowd occ emp n (play touch26 o e) → Held ents cells crowd occ emp n (play touch26 o f)
-held-event {ents} {cells} {crowd} {occ} {emp} {n} o q h = subst (λ (e : Event). Held ents cells crowd occ emp n (play touch26 o e)) q h
+pub held-event : {kind : ℕ} {ents cells crowd occ emp : List ℕ} {n : Counts} (o : Occupancy) {e f : Event} → e ≡ f → Held kind ents cells crowd occ emp n (play (touchAt kind) o e) → Held kind ents cells crowd occ emp n (play (touchAt kind) o f)
+held-event {kind} {ents} {cells} {crowd} {occ} {emp} {n} o q h = subst (λ (e : Event). Held kind ents cells crowd occ emp n (play (touchAt kind) o e)) q h

@@ -9,7 +9,7 @@ use Rattle.capmarrow.proofs.capmarrow_fresh.Tie as tie
 returns : tie.Need-returns
 returns c =
     let s = c .before .before .before in
-    filled-short 3 refusalTold (freshOf (s .args .state .now) (s .args .first-id)) (s .args .told .now) (s .args .state .now) (c .if1 .taken)
+    filled-short 3 refusalTold (freshOf (s .args .state .now) (s .args .first-id) (s .args .kind)) (s .args .told .now) (s .args .state .now) (c .if1 .taken)
 
 fresh-requires : tie.Need-fresh-requires
 fresh-requires c κs = search needs
@@ -29,7 +29,7 @@ returns-2 c =
     let f = t .before .before .before .before in
     let i = f .before .before in
     let s = i .before .before .before in
-    filled-long 3 refusalTold (freshOf (s .args .state .now) (s .args .first-id)) (s .args .told .now) (s .args .state .now) (i .if1 .left)
+    filled-long 3 refusalTold (freshOf (s .args .state .now) (s .args .first-id) (s .args .kind)) (s .args .told .now) (s .args .state .now) (i .if1 .left)
     (f .fresh .result) (f .fresh .last .0) (f .fresh .ensures)
     (t .tell-refusal .result, t .tell-refusal .last .0) (t .tell-refusal .ensures)
 

@@ -5,13 +5,14 @@ use mathlib.Core.List.{List}
 use Prim.Native.Nat.{ℕ}
 use lib.ListN.{length}
 use Rattle.model.specs.Lists.{keys}
-use Rattle.model.specs.Cells.{touch26}
+use Rattle.model.specs.Cells.{touchAt}
 use Rattle.model.specs.Laws.Shared.{sharedIn}
 use Rattle.table.specs.Rows.{table4}
 use Rattle.layout.specs.Widths.{cellWidth, idWidth}
-use Rattle.layout.specs.Rows.{idsIn}
-use Rattle.neighbourhood.specs.Standing.{HasTable}
-use Rattle.consistent.specs.Laws.Points.{asks-parts, point4-is}
+use Rattle.layout.specs.Rows.{cellsIn, idsIn}
+use Rattle.layout.specs.State.{cellWords, cellCount, kindOf}
+use Rattle.neighbourhood.specs.Standing.{Cells, HasTable}
+use Rattle.consistent.specs.Laws.Points.{asks-parts, cells-at-kind, point4-is}
 use borrow.Author.Needs.{needs}
 use Rattle.consistent.proofs.ids_shared.Statement.{statement}
 use Rattle.consistent.proofs.ids_shared.Tie as tie
@@ -41,9 +42,12 @@ parts-right-requires c κs =
 returns : tie.Need-returns
 returns c =
     let s = c .before .before .before .before .before in
-    c .parts-right .ensures
-    ∙ (λ i. sharedIn touch26 (idsIn (c .before .before .count-at .ensures i) (c .before .id-words .ensures i)))
-    ∙ point4-is (s .args .state .now) (s .pre .0) (s .pre .1)
+    let w = s .args .state .now in
+    let m = c .before .before .count-at .ensures in
+    let f = c .before .before .before .cell-words .ensures in
+    c .parts-right .ensures (kindOf w) (cellsIn (cellCount w) (cellWords w)) (subst₂ (λ (n : ℕ) (l : List ℕ). Cells (kindOf w) l n (cellsIn (cellCount w) (cellWords w))) (sym m) (sym f) (cells-at-kind w (s .pre .0) (s .pre .1) (s .pre .2)))
+    ∙ (λ i. sharedIn (touchAt (kindOf w)) (idsIn (m i) (c .before .id-words .ensures i)))
+    ∙ point4-is w (s .pre .0) (s .pre .1)
 
 pub ids-shared-spec : {M : Type 1} → statement M
 ids-shared-spec =

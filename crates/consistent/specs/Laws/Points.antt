@@ -9,7 +9,7 @@ use lib.ListN.{length, drop}
 use borrow.Author.Tests.{leb-true, le-leb}
 use Rattle.component.specs.Laws.Tests.{both}
 use Rattle.model.specs.Lists.{all, has, keys, values, isAscending}
-use Rattle.model.specs.Cells.{Cell, same, below, touch26}
+use Rattle.model.specs.Cells.{Cell, same, below, isKind, touchAt}
 use Rattle.model.specs.Masks.{maskOf, masked}
 use Rattle.model.specs.Update.{mostEntities, mostCells}
 use Rattle.model.specs.Laws.Tests.{T-true, true-of}
@@ -23,8 +23,8 @@ use Rattle.table.specs.Laws.Words.{keys-length}
 use Rattle.table.specs.Laws.Images.{table-facts}
 use Rattle.layout.specs.Widths.{entityWidth, cellWidth, idWidth}
 use Rattle.layout.specs.Rows.{entitiesIn, cellsIn, idsIn}
-use Rattle.layout.specs.State.{entitiesLen, cellsLen, idsLen, decode, spareWords, entityWords, cellWords, occupiedWords, emptiedWords, idWords, groupWords, entityCount, cellCount, occupiedCount, emptiedCount, idCount, groupCount, nextId}
-use Rattle.layout.specs.Points.{tidy, longEnough, point1, point2, point3, point4, point5, point6, point7, point8}
+use Rattle.layout.specs.State.{entitiesLen, cellsLen, idsLen, decode, spareWords, entityWords, cellWords, occupiedWords, emptiedWords, idWords, groupWords, entityCount, cellCount, occupiedCount, emptiedCount, idCount, groupCount, nextId, kindOf}
+use Rattle.layout.specs.Points.{tidy, longEnough, point1, point2, point3, point4, point5, point6, point7, point8, point9}
 use Rattle.layout.specs.Laws.Images.{entities-laws, cells-laws}
 use Rattle.layout.specs.Laws.Lengths.{entities-room, cells-room, ids-room}
 use Rattle.layout.specs.Laws.Cut.{entities-long, cells-long, ids-long}
@@ -80,20 +80,25 @@ module _ (w : List ℕ) where
   point8-is = refl
 
   -- What point 3 is.
-  pub point3-is : all (rowRight (keys (table4 cellWidth (cellCount w) (cellWords w)))) (cellsIn (cellCount w) (cellWords w)) ≡ point3 w
+  pub point3-is : all (rowRight (kindOf w) (keys (table4 cellWidth (cellCount w) (cellWords w)))) (cellsIn (cellCount w) (cellWords w)) ≡ point3 w
   unfolding point3 decode
-  point3-is = ap (λ (l : List Cell). all (rowRight l) (cellsIn (cellCount w) (cellWords w))) (sym (cells-keys (cellCount w) (cellWords w)))
+  point3-is = ap (λ (l : List Cell). all (rowRight (kindOf w) l) (cellsIn (cellCount w) (cellWords w))) (sym (cells-keys (cellCount w) (cellWords w)))
+
+  -- What point 9 is.
+  pub point9-is : isKind (kindOf w) ≡ point9 w
+  unfolding point9 decode
+  point9-is = refl
 
 -- Rows whose masks are right are a table of cells with exact masks.
-module _ (m : ℕ) (s : List ℕ) (ok : isTable4 cellWidth m s ≡ true) (right : all (rowRight (keys (table4 cellWidth m s))) (cellsIn m s) ≡ true) where
-  masks-exact : cellsIn m s ≡ masked touch26 (keys (cellsIn m s))
+module _ (kind m : ℕ) (s : List ℕ) (ok : isTable4 cellWidth m s ≡ true) (right : all (rowRight kind (keys (table4 cellWidth m s))) (cellsIn m s) ≡ true) where
+  masks-exact : cellsIn m s ≡ masked (touchAt kind) (keys (cellsIn m s))
   masks-exact =
-      rows-of-keys (maskOf touch26 (keys (cellsIn m s))) (cellsIn m s)
-      (λ p x. eqb→eq (p .1) (maskOf touch26 (keys (cellsIn m s)) (p .0))
-      (all-out (rowRight (keys (cellsIn m s))) (cellsIn m s) (T-true (ap (λ (l : List Cell). all (rowRight l) (cellsIn m s)) (cells-keys m s) ∙ right)) x))
+      rows-of-keys (maskOf (touchAt kind) (keys (cellsIn m s))) (cellsIn m s)
+      (λ p x. eqb→eq (p .1) (maskOf (touchAt kind) (keys (cellsIn m s)) (p .0))
+      (all-out (rowRight kind (keys (cellsIn m s))) (cellsIn m s) (T-true (ap (λ (l : List Cell). all (rowRight kind l) (cellsIn m s)) (cells-keys m s) ∙ right)) x))
 
   -- The table that stands in the words.
-  cells-stand : Cells s m (cellsIn m s)
+  cells-stand : Cells kind s m (cellsIn m s)
   cells-stand =
       let f = table-facts cell cellWidth m s ok in
       record {
@@ -141,18 +146,22 @@ module _ (w : List ℕ) (long : longEnough w ≡ true) where
   counts-agree e = as-many (entityWords w) (entityCount w) (cellWords w) (cellCount w) (idWords w) (idCount w) cells-room-for ids-room-for (point2-is w ∙ e)
 
   module _ (two : point2 w ≡ true) where
+    -- The occupied cells stand in their words, where points 2 and 3 hold.
+    pub cells-at-kind : point3 w ≡ true → Cells (kindOf w) (cellWords w) (cellCount w) (cellsIn (cellCount w) (cellWords w))
+    cells-at-kind three = cells-stand (kindOf w) (cellCount w) (cellWords w) (tables two .cells-table) (point3-is w ∙ three)
+
     -- What the test of point 4 asks, where points 2 and 3 hold.
     pub asks-parts : point3 w ≡ true
         → HasTable (cellWords w) (cellCount w) × (keys (table4 idWidth (cellCount w) (idWords w)) ≡ keys (table4 cellWidth (cellCount w) (cellWords w))) × (idWidth * cellCount w ≤ length (idWords w)) × (cellCount w ≤ mostCells)
     asks-parts three =
         let t = tables two in (
-          record { table = cellsIn (cellCount w) (cellWords w); cells = cells-stand (cellCount w) (cellWords w) (t .cells-table) (point3-is w ∙ three) },
+          record { kind = kindOf w; table = cellsIn (cellCount w) (cellWords w); cells = cells-at-kind three },
           ap (λ n. keys (table4 idWidth n (idWords w))) (counts-agree two) ∙ t .ids-are ∙ sym (t .cells-are),
           omega (arith, ids-room (cellCount w) (t .few-cells), ids-long w long),
           t .few-cells,
         )
 
     -- What point 4 is.
-    pub point4-is : sharedIn touch26 (idsIn (cellCount w) (idWords w)) ≡ point4 w
+    pub point4-is : sharedIn (touchAt (kindOf w)) (idsIn (cellCount w) (idWords w)) ≡ point4 w
     unfolding point4 decode
-    point4-is = ap (λ n. sharedIn touch26 (idsIn n (idWords w))) (counts-agree two)
+    point4-is = ap (λ n. sharedIn (touchAt (kindOf w)) (idsIn n (idWords w))) (counts-agree two)

@@ -1,15 +1,15 @@
 -- The units of a float: each float that is finite is a whole number of them, and the order of floats is the order of their units.
 use mathlib.Core.Path.{_≡_, refl, sym, ap, _∙_, subst}
 use Prim.Native.Nat.{ℕ, zero, suc, _+_, _-_, _*_, _/_, _%_, _^_, _≤_, _<_}
-use native.Mathlib.Nat.{zero-mul, zero-add, add-zero, add-mul, zero-div, mul-one, mul-comm, mul-assoc, mul-right-comm, mul-pos, mul-div-cancel, mul-div-mul-right, lt-of-mul-lt-mul-right, mul-lt-mul-of-pos-right, le-of-suc-le-suc, lt-of-not-le, lt-irrefl, lt-of-lt-of-le, eq-of-mul-eq-mul-right}
+use native.Mathlib.Nat.{zero-mul, zero-add, add-zero, add-mul, zero-div, mul-one, mul-comm, mul-assoc, mul-right-comm, mul-pos, mul-div-cancel, mul-div-mul-right, lt-of-mul-lt-mul-right, mul-lt-mul-of-pos-right, le-of-suc-le-suc, lt-of-not-le, lt-irrefl, lt-of-lt-of-le}
 use native.Mathlib.Omega.{arith}
 use mathlib.Core.Bool.{Bool, true, false, _&&_}
-use lib.Dec.{T, ltb, leb, eqb, ltb→lt, lt→ltb, leb→le, eqb→eq, leb·suc-suc}
+use lib.Dec.{T, ltb, leb, eqb, ltb→lt, lt→ltb, leb→le, leb·suc-suc}
 use lib.Pow.{pow-add, pow-pos, pow-lt}
-use lib.IntN.{ℤ, pos, negsuc, natAbs}
+use lib.IntN.{ℤ, pos, negsuc}
 use lib.Signed.{ltZ}
-use lib.Ieee.{Float, nan, inf, fin, binary64, up, down, fits, lt, le, eq, below}
-use lib.Ieee.Fits.{and-l, and-r, down-pos, eq→eqb}
+use lib.Ieee.{Float, nan, inf, fin, binary64, up, down, fits, lt, below}
+use lib.Ieee.Fits.{and-l, and-r, down-pos}
 use lib.Ieee.Digits.{back}
 use lib.Ieee.Exact.{HasValue}
 use lib.Ieee.Scale.{finite}
@@ -29,11 +29,6 @@ abbrev pub minus : Float → Bool
 minus nan = false
 minus (inf s) = false
 minus (fin s m e) = s
-
-pub natAbs-signed : (s : Bool) (n : ℕ) → natAbs (signed s n) ≡ n
-natAbs-signed false n = refl
-natAbs-signed true zero = refl
-natAbs-signed true (suc n) = refl
 
 -- ---- 2 ^ e m is a whole number of units
 pow-le-back : (a l : ℕ) → 2 ^ a ≤ 2 ^ l → a ≤ l
@@ -96,11 +91,6 @@ module _ (A B C L a b : ℕ) (pc : 0 < C) (pl : 0 < L) (ha : A * L ≡ a * C) (h
   lt-same = same-test (ltb A B) (ltb a b)
       (λ t. lt→ltb a b (lt-of-mul-lt-mul-right C (subst (λ (x : ℕ). x < b * C) ha (subst (λ (x : ℕ). A * L < x) hb (mul-lt-mul-of-pos-right (ltb→lt A B t) pl)))))
       (λ t. lt→ltb A B (lt-of-mul-lt-mul-right L (subst (λ (x : ℕ). x < B * L) (sym ha) (subst (λ (x : ℕ). a * C < x) (sym hb) (mul-lt-mul-of-pos-right (ltb→lt a b t) pc)))))
-
-  pub eq-same : eqb A B ≡ eqb a b
-  eq-same = same-test (eqb A B) (eqb a b)
-      (λ t. eq→eqb (eq-of-mul-eq-mul-right C pc a b (sym ha ∙ ap (λ (x : ℕ). x * L) (eqb→eq A B t) ∙ hb)))
-      (λ t. eq→eqb (eq-of-mul-eq-mul-right L pl A B (ha ∙ ap (λ (x : ℕ). x * C) (eqb→eq a b t) ∙ sym hb)))
 
 -- Two floats over one denominator.
 pub left-over : (a d L u D : ℕ) → a * L ≡ u * d → a * D * L ≡ u * (d * D)

@@ -14,7 +14,7 @@ slice-aggregate-flood-over-2 c = search needs
 flood-over-requires : tie.Need-flood-over-requires
 flood-over-requires c κs =
     let s = c .before .before .before .before .before in
-    flood-asked (s .args .cells .now) (s .args .n) (s .args .seed) mostCells (s .pre .0) (s .pre .1) (s .pre .2) (s .pre .2)
+    flood-asked (s .args .cells .now) (s .args .n) (s .args .seed) mostCells (s .pre .0 .1) (s .pre .1) (s .pre .2) (s .pre .2)
 
 same-length : tie.Need-same-length
 same-length c = search needs

@@ -18,7 +18,7 @@ start m = queued m .before .before .before .before .before .before .before
 
 -- The number is small.
 few : (m : tie.After-least) → m .least .result ≤ mostCells
-few m = omega (arith, m .least .ensures, queued m .queue-flood .ensures .few, start m .pre .few)
+few m = omega (arith, m .least .ensures, queued m .queue-flood .ensures (start m .pre .kind) (start m .pre .cells) .few, start m .pre .few)
 
 queue-flood-requires : tie.Need-queue-flood-requires
 queue-flood-requires c κs = search needs
@@ -42,14 +42,15 @@ returns : tie.Need-returns
 returns c =
     let m = c .before in
     let s = start m in
-    flooded-long (s .args .cells .now) (s .args .n) (cellsIn (s .args .n) (s .args .cells .now)) (rowCell (s .args .cells .now) (s .args .seed)) (depthOf (s .args .depth)) (s .args .budget) (queued m .queue-flood .last .1 .1 .1 .1 .1 .0) (queued m .queue-flood .result) (queued m .queue-flood .ensures) (m .least .result) (m .least .ensures) (s .args .answer .now) (c .if1 .taken)
+    λ kind stands.
+    flooded-long kind (s .args .cells .now) (s .args .n) (cellsIn (s .args .n) (s .args .cells .now)) (rowCell (s .args .cells .now) (s .args .seed)) (depthOf (s .args .depth)) (s .args .budget) (queued m .queue-flood .last .1 .1 .1 .1 .1 .0) (queued m .queue-flood .result) (queued m .queue-flood .ensures kind stands) (m .least .result) (m .least .ensures) (s .args .answer .now) (c .if1 .taken)
 
 flood-into-requires : tie.Need-flood-into-requires
 flood-into-requires c κs =
     let i = c .before .before in
     let m = i .before in
     let s = start m in
-    (visits-rows (s .args .cells .now) (s .args .n) (cellsIn (s .args .n) (s .args .cells .now)) (rowCell (s .args .cells .now) (s .args .seed)) (depthOf (s .args .depth)) (s .args .budget) (queued m .queue-flood .last .1 .1 .1 .1 .1 .0) (queued m .queue-flood .result) (queued m .queue-flood .ensures) (m .least .result) (m .least .ensures), i .if1 .left)
+    (visits-rows (s .pre .kind) (s .args .cells .now) (s .args .n) (cellsIn (s .args .n) (s .args .cells .now)) (rowCell (s .args .cells .now) (s .args .seed)) (depthOf (s .args .depth)) (s .args .budget) (queued m .queue-flood .last .1 .1 .1 .1 .1 .0) (queued m .queue-flood .result) (queued m .queue-flood .ensures (s .pre .kind) (s .pre .cells)) (m .least .result) (m .least .ensures), i .if1 .left)
 
 same-length-3 : tie.Need-same-length-3
 same-length-3 c = search needs
@@ -66,7 +67,8 @@ returns-2 c =
     let i = g .before .before .before in
     let m = i .before in
     let s = start m in
-    flooded-fits (s .args .cells .now) (s .args .n) (cellsIn (s .args .n) (s .args .cells .now)) (rowCell (s .args .cells .now) (s .args .seed)) (depthOf (s .args .depth)) (s .args .budget) (queued m .queue-flood .last .1 .1 .1 .1 .1 .0) (queued m .queue-flood .result) (queued m .queue-flood .ensures) (m .least .result) (m .least .ensures) (s .args .answer .now) (g .flood-into .last .1 .1 .1 .1 .0) (i .if1 .left) (g .flood-into .ensures)
+    λ kind stands.
+    flooded-fits kind (s .args .cells .now) (s .args .n) (cellsIn (s .args .n) (s .args .cells .now)) (rowCell (s .args .cells .now) (s .args .seed)) (depthOf (s .args .depth)) (s .args .budget) (queued m .queue-flood .last .1 .1 .1 .1 .1 .0) (queued m .queue-flood .result) (queued m .queue-flood .ensures kind stands) (m .least .result) (m .least .ensures) (s .args .answer .now) (g .flood-into .last .1 .1 .1 .1 .0) (i .if1 .left) (g .flood-into .ensures)
 
 pub flood-over-spec : {M : Type 1} → statement M
 flood-over-spec =

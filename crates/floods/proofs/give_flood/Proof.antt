@@ -2,7 +2,7 @@
 use mathlib.Core.Path.{_≡_, sym, _∙_}
 use borrow.Author.Needs.{needs}
 use Rattle.model.specs.Flood.{flood}
-use Rattle.model.specs.Cells.{below, touch26}
+use Rattle.model.specs.Cells.{below, touchAt}
 use Rattle.model.specs.Lists.{keys}
 use Rattle.table.specs.Rows.{placeOf, table4}
 use Rattle.table.specs.declared.Place.the-variants.{Found}
@@ -22,7 +22,7 @@ at : (k : tie.After-known-told) → let s = k .before .before .before .before .b
 at k = sym (k .before .p .given .1) ∙ k .before .before .before .find4 .ensures
 
 find4-requires : tie.Need-find4-requires
-find4-requires c κs = let s = c .before .before in cells-table (s .args .cells .now) (s .args .n) (cellsIn (s .args .n) (s .args .cells .now)) (s .pre .0)
+find4-requires c κs = let s = c .before .before in cells-table (s .args .cells .now) (s .args .n) (cellsIn (s .args .n) (s .args .cells .now)) (s .pre .0 .1)
 
 enum-known-p : tie.Need-enum-known-p
 enum-known-p c = search needs
@@ -31,7 +31,7 @@ flood-from-requires : tie.Need-flood-from-requires
 flood-from-requires c κs =
     let k = c .before in
     let s = k .before .before .before .before .before .before in
-    (s .pre .0, found-there (s .args .cells .now) (s .args .n) (cellsIn (s .args .n) (s .args .cells .now)) (s .pre .0) (s .args .c) (k .before .p .given .0 .0) (at k), s .pre .1)
+    (s .pre .0, found-there (s .args .cells .now) (s .args .n) (cellsIn (s .args .n) (s .args .cells .now)) (s .pre .0 .1) (s .args .c) (k .before .p .given .0 .0) (at k), s .pre .1)
 
 enum-told : tie.Need-enum-told
 enum-told c = search needs
@@ -45,16 +45,18 @@ returns c =
     let s = k .before .before .before .before .before .before in
     let t = cellsIn (s .args .n) (s .args .cells .now) in
     let i = k .before .p .given .0 .0 in
-    c .before .before .flood-from .ensures
-    ∙ (λ j. flooded (sym (found-has (s .args .cells .now) (s .args .n) t (s .pre .0) (s .args .c) i (at k)) j)
-    (flood touch26 (having t .occupancy) (found-cell (s .args .cells .now) (s .args .n) t (s .pre .0) (s .args .c) i (at k) j) (depthOf (s .args .depth)) (s .args .budget)) (s .args .answer .now))
+    λ kind stands.
+    c .before .before .flood-from .ensures kind stands
+    ∙ (λ j. flooded (sym (found-has (s .args .cells .now) (s .args .n) t stands (s .args .c) i (at k)) j)
+    (flood (touchAt kind) (having t .occupancy) (found-cell (s .args .cells .now) (s .args .n) t stands (s .args .c) i (at k) j) (depthOf (s .args .depth)) (s .args .budget)) (s .args .answer .now))
 
 returns-2 : tie.Need-returns-2
 returns-2 c =
     let s = c .before .before .before .before .before in
     let t = cellsIn (s .args .n) (s .args .cells .now) in
-    flooded-none t (s .args .c) (depthOf (s .args .depth)) (s .args .budget) (s .args .answer .now)
-    (missing-has (s .args .cells .now) (s .args .n) t (s .pre .0) (s .args .c) (c .enum-told .given .0 .0) (sym (c .enum-told .given .1) ∙ c .before .before .find4 .ensures))
+    λ kind stands.
+    flooded-none kind t (s .args .c) (depthOf (s .args .depth)) (s .args .budget) (s .args .answer .now)
+    (missing-has (s .args .cells .now) (s .args .n) t stands (s .args .c) (c .enum-told .given .0 .0) (sym (c .enum-told .given .1) ∙ c .before .before .find4 .ensures))
 
 pub give-flood-spec : {M : Type 1} → statement M
 give-flood-spec =

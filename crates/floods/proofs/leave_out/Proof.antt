@@ -20,7 +20,7 @@ enum-known-depth : tie.Need-enum-known-depth
 enum-known-depth c = search needs
 
 mark-outside-requires : tie.Need-mark-outside-requires
-mark-outside-requires c κs = search needs
+mark-outside-requires c κs = let s = c .before .before .before .before .before .before in (s .pre .0 .1 .fits, s .pre .1, s .pre .2)
 
 enum-told : tie.Need-enum-told
 enum-told c = search needs
@@ -35,7 +35,7 @@ returns c =
     let s = k .before .before .before .before .before in
     let t = cellsIn (s .args .n) (s .args .cells .now) in
     let p = rowCell (s .args .cells .now) (s .args .seed) in
-    outside-open (s .args .cells .now) (s .args .n) t (s .pre .0) p _ (s .args .marks .now) (m .mark-outside .last .1 .1 .1 .1 .0) (s .pre .3) (m .mark-outside .ensures)
+    outside-open (s .args .cells .now) (s .args .n) t (s .pre .0 .1) p _ (s .args .marks .now) (m .mark-outside .last .1 .1 .1 .1 .0) (s .pre .3) (m .mark-outside .ensures)
     ∙ ap (λ (z : ℤ). keep (withinDepth (biased z) p) (keys t)) (toZ-ofZ {w = w32} {z = k .before .depth .given .0 .0} (record { sfits = k .known-told .given .0 .1 }))
     ∙ ap (λ (d : Depth). floodCells (depthOf d) p (keys t)) (sym (k .before .depth .given .1))
 
@@ -43,7 +43,7 @@ returns-2 : tie.Need-returns-2
 returns-2 c =
     let s = c .before .before .before .before in
     let t = cellsIn (s .args .n) (s .args .cells .now) in
-    open-all (s .args .cells .now) (s .args .n) t (s .pre .0) (s .args .marks .now) (s .pre .3)
+    open-all (s .args .cells .now) (s .args .n) t (s .pre .0 .1) (s .args .marks .now) (s .pre .3)
     ∙ ap (λ (d : Depth). floodCells (depthOf d) (rowCell (s .args .cells .now) (s .args .seed)) (keys t)) (sym (c .enum-told .given .1))
 
 pub leave-out-spec : {M : Type 1} → statement M

@@ -5,7 +5,7 @@ use mathlib.Core.List.{List}
 use mathlib.Core.Path.{subst}
 use lib.ListN.{length}
 use borrow.Author.Needs.{needs}
-use Rattle.model.specs.Cells.{Cell, touch26}
+use Rattle.model.specs.Cells.{Cell, touchAt}
 use Rattle.model.specs.Flood.{wholeFlood}
 use Rattle.layout.specs.Rows.{cellsIn}
 use Rattle.neighbourhood.specs.Rows.{rowCell}
@@ -22,7 +22,7 @@ room : (w : tie.After-leave-out) → start w .args .n ≤ length (w .leave-out .
 room w = omega (arith, w .leave-out .kept .1 .1 .1 .1 .0, start w .pre .marksFit)
 
 leave-out-requires : tie.Need-leave-out-requires
-leave-out-requires c κs = search needs
+leave-out-requires c κs = let s = c .before .before .before .before in ((s .pre .kind, s .pre .cells), s .pre .seeded, s .pre .marksFit, s .pre .clear)
 
 mul-if1 : tie.Need-mul-if1
 mul-if1 c = let f = room (c .before .before) in search needs
@@ -37,8 +37,9 @@ returns : tie.Need-returns
 returns c =
     let w = c .before .before .before .before in
     let s = start w in
-    subst (λ (l : List Cell). Visits (s .args .cells .now) (s .args .n) (s .args .queue .now) 0 (wholeFlood touch26 l (rowCell (s .args .cells .now) (s .args .seed)))) (w .leave-out .ensures)
-    (visits-none (s .args .cells .now) (s .args .n) (cellsIn (s .args .n) (s .args .cells .now)) (s .pre .cells) (s .args .seed) (s .pre .seeded) (w .leave-out .last .1 .1 .1 .1 .0) (s .args .queue .now) (λ e. omega (arith, c .if1 .taken)))
+    λ kind stands.
+    subst (λ (l : List Cell). Visits (s .args .cells .now) (s .args .n) (s .args .queue .now) 0 (wholeFlood (touchAt kind) l (rowCell (s .args .cells .now) (s .args .seed)))) (w .leave-out .ensures)
+    (visits-none (s .args .cells .now) (s .args .n) (cellsIn (s .args .n) (s .args .cells .now)) stands (s .args .seed) (s .pre .seeded) (w .leave-out .last .1 .1 .1 .1 .0) (s .args .queue .now) (λ e. omega (arith, c .if1 .taken)))
 
 flood-rows-requires : tie.Need-flood-rows-requires
 flood-rows-requires c κs =
@@ -58,8 +59,9 @@ returns-2 c =
     let i = r .before .before .before in
     let w = i .before .before .before .before in
     let s = start w in
-    subst (λ (l : List Cell). Visits (s .args .cells .now) (s .args .n) (r .flood-rows .last .1 .1 .1 .1 .1 .1 .0) (r .flood-rows .result) (wholeFlood touch26 l (rowCell (s .args .cells .now) (s .args .seed)))) (w .leave-out .ensures)
-    (visits-open (s .args .cells .now) (s .args .n) (cellsIn (s .args .n) (s .args .cells .now)) (s .pre .cells) (s .args .seed) (s .pre .seeded) (w .leave-out .last .1 .1 .1 .1 .0) (omega (arith, i .if1 .left)) (s .args .queue .now) (r .flood-rows .result) (r .flood-rows .last .1 .1 .1 .1 .1 .0) (r .flood-rows .last .1 .1 .1 .1 .1 .1 .0) (r .flood-rows .ensures) (s .pre .queueFits))
+    λ kind stands.
+    subst (λ (l : List Cell). Visits (s .args .cells .now) (s .args .n) (r .flood-rows .last .1 .1 .1 .1 .1 .1 .0) (r .flood-rows .result) (wholeFlood (touchAt kind) l (rowCell (s .args .cells .now) (s .args .seed)))) (w .leave-out .ensures)
+    (visits-open (s .args .cells .now) (s .args .n) (cellsIn (s .args .n) (s .args .cells .now)) stands (s .args .seed) (s .pre .seeded) (w .leave-out .last .1 .1 .1 .1 .0) (omega (arith, i .if1 .left)) (s .args .queue .now) (r .flood-rows .result) (r .flood-rows .last .1 .1 .1 .1 .1 .0) (r .flood-rows .last .1 .1 .1 .1 .1 .1 .0) (r .flood-rows .ensures kind (cellsIn (s .args .n) (s .args .cells .now)) stands) (s .pre .queueFits))
 
 pub queue-flood-spec : {M : Type 1} → statement M
 queue-flood-spec =

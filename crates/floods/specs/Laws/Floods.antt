@@ -10,7 +10,7 @@ use lib.ListN.{length, take, getD, replicate, length-replicate, getD-replicate, 
 use lib.Seq.{take-all}
 use Rattle.component.specs.Laws.Tests.{le-or-lt}
 use Rattle.model.specs.Lists.{has, keys, gather}
-use Rattle.model.specs.Cells.{Cell, same, touch26}
+use Rattle.model.specs.Cells.{Cell, same, touchAt}
 use Rattle.model.specs.Flood.{Flood, Depth, floodCells, wholeFlood, flood}
 use Rattle.model.specs.Laws.Tests.{T-false}
 use Rattle.model.specs.Laws.Orders.{cells}
@@ -39,18 +39,19 @@ take-least a l =
     (λ h. let e : min a (length l) ≡ length l = omega arith in ap (λ (m : ℕ). take m l) e ∙ take-all (length l) l (omega arith) ∙ sym (take-all a l (omega arith))) (le-or-lt a (length l))
 
 -- From an unoccupied seed there is no flood, and that is all of it.
-pub flooded-none : (t : List (Cell × ℕ)) (c : Cell) (depth : Depth) (budget : ℕ) (answer : List ℕ) → has same (keys t) c ≡ false
-    → (done (false, record { number = 0; «was_all» = true }), answer) ≡ flooded (has same (keys t) c) (flood touch26 (having t .occupancy) c depth budget) answer
-flooded-none t c depth budget answer e =
-    let z : record { cells = []; number = 0; wasAll = true } ≡ flood touch26 (having t .occupancy) c depth budget =
-    sym (flood-nothing touch26 (having t .occupancy) c depth budget (of-hasnt cells (keys t) (T-false e))) in
+pub flooded-none : (kind : ℕ) (t : List (Cell × ℕ)) (c : Cell) (depth : Depth) (budget : ℕ) (answer : List ℕ) → has same (keys t) c ≡ false
+    → (done (false, record { number = 0; «was_all» = true }), answer) ≡ flooded (has same (keys t) c) (flood (touchAt kind) (having t .occupancy) c depth budget) answer
+flooded-none kind t c depth budget answer e =
+    let z : record { cells = []; number = 0; wasAll = true } ≡ flood (touchAt kind) (having t .occupancy) c depth budget =
+    sym (flood-nothing (touchAt kind) (having t .occupancy) c depth budget (of-hasnt cells (keys t) (T-false e))) in
     fitted-none (false, record { number = 0; «was_all» = true }) answer
     ∙ (λ i. flooded (sym e i) (z i) answer)
 
 -- A flood can be asked with rows that are all zero.
-pub flood-asked : (words : List ℕ) (n seed m : ℕ) → Cells words n (cellsIn n words) → seed < n → n ≤ mostCells → n ≤ m → FloodAsked words n seed (replicate m 0) (replicate m 0)
-flood-asked words n seed m k h f g =
+pub flood-asked : {kind : ℕ} (words : List ℕ) (n seed m : ℕ) → Cells kind words n (cellsIn n words) → seed < n → n ≤ mostCells → n ≤ m → FloodAsked words n seed (replicate m 0) (replicate m 0)
+flood-asked {kind} words n seed m k h f g =
     record {
+      kind = kind;
       cells = k;
       seeded = h;
       few = f;
@@ -59,18 +60,18 @@ flood-asked words n seed m k h f g =
       queueFits = omega (arith, length-replicate {A = ℕ} m 0);
     }
 
-module _ (words : List ℕ) (n : ℕ) (t : List (Cell × ℕ)) (k : Cells words n t) (seed : ℕ) (h : seed < n) (marks : List ℕ) where
+module _ {kind : ℕ} (words : List ℕ) (n : ℕ) (t : List (Cell × ℕ)) (k : Cells kind words n t) (seed : ℕ) (h : seed < n) (marks : List ℕ) where
   abbrev free : List Cell
   free = openCells words n marks
 
   -- A flood from a marked row visits nothing.
-  pub visits-none : (queue : List ℕ) → (getD marks seed 0 ≡ 0 → ⊥) → Visits words n queue 0 (wholeFlood touch26 (openCells words n marks) (rowCell words seed))
+  pub visits-none : (queue : List ℕ) → (getD marks seed 0 ≡ 0 → ⊥) → Visits words n queue 0 (wholeFlood (touchAt kind) (openCells words n marks) (rowCell words seed))
   visits-none queue f =
       record {
         rows = record { fits = k .fits; few = omega arith; there = λ j l. absurd (omega arith) };
         few = omega arith;
         order =
-            sym (whole-none touch26 free (rowCell words seed)
+            sym (whole-none (touchAt kind) free (rowCell words seed)
             (λ m. let r = open-out words n marks m in f (ap (λ (j : ℕ). getD marks j 0) (row-once words n t k seed (r .0) h (r .1) (r .3)) ∙ r .2)));
       }
 
@@ -78,6 +79,7 @@ module _ (words : List ℕ) (n : ℕ) (t : List (Cell × ℕ)) (k : Cells words 
   pub floodable : getD marks seed 0 ≡ 0 → n ≤ length marks → (queue : List ℕ) → n ≤ length queue → Floodable words n seed 1 0 marks queue
   floodable z f queue g =
       record {
+        kind = kind;
         table = t;
         cells = k;
         seeded = h;
@@ -89,19 +91,19 @@ module _ (words : List ℕ) (n : ℕ) (t : List (Cell × ℕ)) (k : Cells words 
       }
 
   -- It visits what the unmarked rows have.
-  pub visits-open : getD marks seed 0 ≡ 0 → (queue : List ℕ) (r : ℕ) (marks′ queue′ : List ℕ) → Flooded words n seed 1 0 marks queue r marks′ queue′ → n ≤ length queue
-      → Visits words n queue′ r (wholeFlood touch26 (openCells words n marks) (rowCell words seed))
+  pub visits-open : getD marks seed 0 ≡ 0 → (queue : List ℕ) (r : ℕ) (marks′ queue′ : List ℕ) → Flooded kind words n seed 1 0 marks queue r marks′ queue′ → n ≤ length queue
+      → Visits words n queue′ r (wholeFlood (touchAt kind) (openCells words n marks) (rowCell words seed))
   visits-open z queue r marks′ queue′ d g =
       record {
         rows = record { fits = k .fits; few = omega (arith, d .few, d .queueKept); there = d .rows };
         few = d .few;
-        order = d .order ∙ sym (whole-visit touch26 free (open-once words n t k marks) (rowCell words seed) (open-in words n marks seed h z));
+        order = d .order ∙ sym (whole-visit (touchAt kind) free (open-once words n t k marks) (rowCell words seed) (open-in words n marks seed h z));
       }
 
-module _ (words : List ℕ) (n : ℕ) (t : List (Cell × ℕ)) (c : Cell) (depth : Depth) (budget : ℕ) (queue : List ℕ) (r : ℕ)
-    (v : Visits words n queue r (wholeFlood touch26 (floodCells depth c (keys t)) c)) (number : ℕ) (en : number ≡ min budget r) where
+module _ (kind : ℕ) (words : List ℕ) (n : ℕ) (t : List (Cell × ℕ)) (c : Cell) (depth : Depth) (budget : ℕ) (queue : List ℕ) (r : ℕ)
+    (v : Visits words n queue r (wholeFlood (touchAt kind) (floodCells depth c (keys t)) c)) (number : ℕ) (en : number ≡ min budget r) where
   abbrev all : List Cell
-  all = wholeFlood touch26 (floodCells depth c (keys t)) c
+  all = wholeFlood (touchAt kind) (floodCells depth c (keys t)) c
 
   long : r ≡ length all
   long = sym (rows-long words queue r (v .rows .few)) ∙ ap length (v .order)
@@ -121,7 +123,7 @@ module _ (words : List ℕ) (n : ℕ) (t : List (Cell × ℕ)) (c : Cell) (depth
   number-is = en ∙ ap (min budget) long ∙ sym (length-take budget all)
 
   abbrev asked : Flood
-  asked = flood touch26 (having t .occupancy) c depth budget
+  asked = flood (touchAt kind) (having t .occupancy) c depth budget
 
   size : length (gather answerWords (take budget all)) ≡ answerWidth * number
   size = words-long (take budget all) ∙ ap (λ (m : ℕ). answerWidth * m) (sym number-is)

@@ -1,30 +1,26 @@
 -- A consistent state fits into its words.
 use Prim.Native.Nat.{ℕ, _≤_}
 use native.Mathlib.Omega.{arith}
-use mathlib.Core.Path.{_≡_, sym, ap, _∙_, subst}
+use mathlib.Core.Path.{_≡_, ap, subst}
 use mathlib.Core.Bool.{true}
 use mathlib.Core.List.{List, List·Memᴰ as Mem}
 use lib.Dec.{T}
 use lib.ListN.{length}
-use Rattle.component.specs.Around.{around}
 use Rattle.component.specs.Adjacent.{hasRoom}
-use Rattle.component.specs.Laws.Adjacent.{range-room, room-above}
-use Rattle.component.specs.Laws.Neighbours.{around-one}
-use Rattle.component.specs.Touch.{touches}
-use Rattle.component.specs.Laws.Touch.{touching-in-list}
+use Rattle.component.specs.Laws.Adjacent.{range-room}
 use Rattle.model.specs.Lists.{values, ascending}
-use Rattle.model.specs.Cells.{Cell, below, cellInRange, touch26}
+use Rattle.model.specs.Cells.{Cell, below, cellInRange}
 use Rattle.model.specs.Occupancy.{occupied}
 use Rattle.model.specs.Groups.{Ids, records}
-use Rattle.model.specs.Update.{State, mostCells}
-use Rattle.model.specs.Consistent.{consistent}
-use Rattle.model.specs.Laws.Tests.{true-of}
+use Rattle.model.specs.Update.{State, mostCells, touchOf}
+use Rattle.model.specs.Consistent.{consistentBy, kindKnown, consistent}
+use Rattle.model.specs.Laws.Tests.{true-of, and-snd}
 use Rattle.model.specs.Laws.Orders.{numbers, cells}
-use Rattle.model.specs.Laws.Members.{each-length, key-in, once-shorter}
+use Rattle.model.specs.Laws.Members.{each-length}
 use Rattle.model.specs.Laws.Sorted.{ascending-length, ascending-out}
 use Rattle.model.specs.Laws.Tables.{keys-length}
 use Rattle.model.specs.Laws.Records.{records-keys}
-use Rattle.model.specs.Laws.Touching.{touching-26, touch26-touches}
+use Rattle.model.specs.Laws.Kinds.{kind-touching}
 use Rattle.model.specs.Laws.Consistency.{Ok, ok-out}
 use Rattle.layout.specs.Facts.{Fits}
 
@@ -35,7 +31,7 @@ records-few entities ids =
     let b = ap length (records-keys entities ids) in
     omega (arith, ascending-length numbers (values ids), each-length (λ (p : Cell × ℕ). p .1) ids)
 
-module _ (s : State) (ok : Ok touch26 s) where
+module _ (s : State) (ok : Ok (touchOf s) s) where
   -- An occupied cell has room.
   pub occupied-room : (c : Cell) → Mem c (occupied (s .occupancy)) → hasRoom 1 c ≡ true
   occupied-room c m =
@@ -56,5 +52,5 @@ module _ (s : State) (ok : Ok touch26 s) where
       }
 
 -- A consistent state fits.
-pub consistent-fits : (s : State) → T (consistent touch26 s) → Fits s
-consistent-fits s t = ok-fits s (ok-out touch26 (touching-26 .flip) s t)
+pub consistent-fits : (s : State) → T (consistent s) → Fits s
+consistent-fits s t = ok-fits s (ok-out (touchOf s) (kind-touching (s .kind) .flip) s (and-snd (kindKnown s) (consistentBy (touchOf s) s) t))

@@ -9,14 +9,14 @@ use lib.ListN.{drop}
 use borrow.Author.Tests.{leb-true}
 use Rattle.component.specs.Laws.Tests.{and-in, both}
 use Rattle.model.specs.Lists.{all, values}
-use Rattle.model.specs.Cells.{cellInRange, touch26}
-use Rattle.model.specs.Update.{State, mostEntities, mostCells}
-use Rattle.model.specs.Consistent.{withinNumber, cellsExact, masksExact, idsShared, recordsExact, idsBelowNext, coordinatesInRange, netsInOrder}
+use Rattle.model.specs.Cells.{cellInRange}
+use Rattle.model.specs.Update.{State, mostEntities, mostCells, touchOf}
+use Rattle.model.specs.Consistent.{withinNumber, cellsExact, masksExact, idsShared, recordsExact, idsBelowNext, coordinatesInRange, netsInOrder, kindKnown}
 use Rattle.table.specs.Rows.{areZero}
 use Rattle.layout.specs.Widths.{entityWidth, cellWidth, netWidth, idWidth, groupWidth}
 use Rattle.layout.specs.Rows.{netIn}
 use Rattle.layout.specs.State.{decode, spareWords, entityWords, cellWords, occupiedWords, emptiedWords, idWords, groupWords, entityCount, cellCount, occupiedCount, emptiedCount, idCount, groupCount}
-use Rattle.layout.specs.Points.{tidy, point1, point2, point3, point4, point5, point6, point7, point8, consistentWords}
+use Rattle.layout.specs.Points.{tidy, point1, point2, point3, point4, point5, point6, point7, point8, point9, consistentWords}
 use Rattle.layout.specs.Facts.{Orderly}
 use Rattle.layout.specs.Laws.Broken.{all-points}
 
@@ -24,7 +24,7 @@ module _ (w : List ℕ) where
   abbrev s : State
   s = decode w
 
-  -- Points 2 to 8, each with what follows it.
+  -- Points 1 to 8, each with what follows it.
   abbrev from7 : Bool
   from7 = point7 w && point8 w
 
@@ -43,6 +43,9 @@ module _ (w : List ℕ) where
   abbrev from2 : Bool
   from2 = point2 w && from3
 
+  abbrev from1 : Bool
+  from1 = point1 w && from2
+
   -- The points of the state, each with what follows it.
   abbrev of7 : Bool
   of7 = coordinatesInRange s && netsInOrder s
@@ -54,13 +57,16 @@ module _ (w : List ℕ) where
   of5 = recordsExact s && of6
 
   abbrev of4 : Bool
-  of4 = idsShared touch26 s && of5
+  of4 = idsShared (touchOf s) s && of5
 
   abbrev of3 : Bool
-  of3 = masksExact touch26 s && of4
+  of3 = masksExact (touchOf s) s && of4
 
   abbrev of2 : Bool
   of2 = cellsExact s && of3
+
+  abbrev of1 : Bool
+  of1 = withinNumber s && of2
 
   -- The parts of the points of words.
   abbrev spare-ok : Bool
@@ -102,9 +108,10 @@ module _ (w : List ℕ) where
 
   -- Consistent words are orderly.
   pub orderly-out : consistentWords w ≡ true → Orderly w
-  unfolding point1 point2 point3 point4 point5 point6 point8
+  unfolding point1 point2 point3 point4 point5 point6 point8 point9
   orderly-out e =
-      let p1 = both (point1 w) from2 (sym (all-points w) ∙ e) in
+      let p0 = both (point9 w) from1 (sym (all-points w) ∙ e) in
+      let p1 = both (point1 w) from2 (p0 .1) in
       let p2 = both (point2 w) from3 (p1 .1) in
       let p3 = both (point3 w) from4 (p2 .1) in
       let p4 = both (point4 w) from5 (p3 .1) in
@@ -129,27 +136,30 @@ module _ (w : List ℕ) where
         occupied-rows = h1 .0;
         emptied-rows = h2 .0;
         yard =
-            and-in (withinNumber s) of2 (a3 .1)
+            and-in (kindKnown s) of1 (p0 .0)
+            (and-in (withinNumber s) of2 (a3 .1)
             (and-in (cellsExact s) of3 (b2 .1)
-            (and-in (masksExact touch26 s) of4 (p3 .0)
-            (and-in (idsShared touch26 s) of5 (p4 .0)
+            (and-in (masksExact (touchOf s) s) of4 (p3 .0)
+            (and-in (idsShared (touchOf s) s) of5 (p4 .0)
             (and-in (recordsExact s) of6 (d1 .1)
             (and-in (idsBelowNext s) of7 (p6 .0)
-            (and-in (coordinatesInRange s) (netsInOrder s) (sym (ranged (h1 .0) (h2 .0)) ∙ p7 .0) (h2 .1)))))));
+            (and-in (coordinatesInRange s) (netsInOrder s) (sym (ranged (h1 .0) (h2 .0)) ∙ p7 .0) (h2 .1))))))));
       }
 
   -- Orderly words are consistent.
   pub orderly-in : Orderly w → consistentWords w ≡ true
-  unfolding point1 point2 point3 point4 point5 point6 point8
+  unfolding point1 point2 point3 point4 point5 point6 point8 point9
   orderly-in o =
-      let p1 = both (withinNumber s) of2 (o .yard) in
+      let p0 = both (kindKnown s) of1 (o .yard) in
+      let p1 = both (withinNumber s) of2 (p0 .1) in
       let p2 = both (cellsExact s) of3 (p1 .1) in
-      let p3 = both (masksExact touch26 s) of4 (p2 .1) in
-      let p4 = both (idsShared touch26 s) of5 (p3 .1) in
+      let p3 = both (masksExact (touchOf s) s) of4 (p2 .1) in
+      let p4 = both (idsShared (touchOf s) s) of5 (p3 .1) in
       let p5 = both (recordsExact s) of6 (p4 .1) in
       let p6 = both (idsBelowNext s) of7 (p5 .1) in
       let p7 = both (coordinatesInRange s) (netsInOrder s) (p6 .1) in
-      all-points w ∙ and-in (point1 w) from2
+      all-points w ∙ and-in (point9 w) from1 (p0 .0)
+      (and-in (point1 w) from2
       (and-in spare-ok (ents-ok && (few-ok && withinNumber s)) (o .spare-zero)
       (and-in ents-ok (few-ok && withinNumber s) (o .entity-rows) (and-in few-ok (withinNumber s) (o .cell-few) (p1 .0))))
       (and-in (point2 w) from3
@@ -159,4 +169,4 @@ module _ (w : List ℕ) where
       (and-in (point5 w) from6 (and-in groups-ok (recordsExact s) (o .group-rows) (p5 .0))
       (and-in (point6 w) from7 (p6 .0)
       (and-in (point7 w) (point8 w) (ranged (o .occupied-rows) (o .emptied-rows) ∙ p7 .0)
-      (and-in occs-ok (emps-ok && netsInOrder s) (o .occupied-rows) (and-in emps-ok (netsInOrder s) (o .emptied-rows) (p7 .1)))))))))
+      (and-in occs-ok (emps-ok && netsInOrder s) (o .occupied-rows) (and-in emps-ok (netsInOrder s) (o .emptied-rows) (p7 .1))))))))))

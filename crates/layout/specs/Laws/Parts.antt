@@ -44,7 +44,7 @@ take-more w f t h = sym (take-append-drop f (take t w)) ∙ ap (λ (l : List ℕ
 
 -- The words of the header that have a name, one by one.
 pub first-words : (w : List ℕ) → spare ≤ length w
-    → take spare w ≡ getD w 0 0 ∷ getD w 1 0 ∷ getD w 2 0 ∷ getD w 3 0 ∷ getD w 4 0 ∷ getD w 5 0 ∷ getD w 6 0 ∷ []
+    → take spare w ≡ getD w 0 0 ∷ getD w 1 0 ∷ getD w 2 0 ∷ getD w 3 0 ∷ getD w 4 0 ∷ getD w 5 0 ∷ getD w 6 0 ∷ getD w 7 0 ∷ []
 first-words [] h = absurd (omega arith)
 first-words (a ∷ []) h = absurd (omega arith)
 first-words (a ∷ b ∷ []) h = absurd (omega arith)
@@ -52,4 +52,5 @@ first-words (a ∷ b ∷ c ∷ []) h = absurd (omega arith)
 first-words (a ∷ b ∷ c ∷ d ∷ []) h = absurd (omega arith)
 first-words (a ∷ b ∷ c ∷ d ∷ e ∷ []) h = absurd (omega arith)
 first-words (a ∷ b ∷ c ∷ d ∷ e ∷ f ∷ []) h = absurd (omega arith)
-first-words (a ∷ b ∷ c ∷ d ∷ e ∷ f ∷ g ∷ w) h = refl
+first-words (a ∷ b ∷ c ∷ d ∷ e ∷ f ∷ g ∷ []) h = absurd (omega arith)
+first-words (a ∷ b ∷ c ∷ d ∷ e ∷ f ∷ g ∷ k ∷ w) h = refl

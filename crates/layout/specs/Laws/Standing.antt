@@ -17,9 +17,9 @@ use Rattle.layout.specs.Facts.{From, Fits, BeginsWith}
 use Rattle.layout.specs.Laws.Parts.{part-first, part-is, part-next}
 
 -- Behind the header's words with a name stand zeros, up to the entities.
-spare-behind : (a b c d e f g : ℕ) (r : List ℕ) → areZero (slice spare entitiesFrom ((a ∷ b ∷ c ∷ d ∷ e ∷ f ∷ g ∷ replicate (headerLen - spare) 0) ++ r)) ≡ true
+spare-behind : (a b c d e f g h : ℕ) (r : List ℕ) → areZero (slice spare entitiesFrom ((a ∷ b ∷ c ∷ d ∷ e ∷ f ∷ g ∷ h ∷ replicate (headerLen - spare) 0) ++ r)) ≡ true
 unfolding entitiesFrom
-spare-behind a b c d e f g r = refl
+spare-behind a b c d e f g h r = refl
 
 -- Seven parts and a rest, one after the other.
 regroup : (h a b c d e g r : List ℕ) → (h ++ (a ++ (b ++ (c ++ (d ++ (e ++ g)))))) ++ r ≡ h ++ (a ++ (b ++ (c ++ (d ++ (e ++ (g ++ r))))))
@@ -120,9 +120,10 @@ module _ (s : State) (fits : Fits s) where
           id-count = refl;
           group-count = refl;
           next-id = refl;
+          kind-is = refl;
           spare-zero =
               spare-behind (length (s .occupancy .entities)) (length (s .occupancy .masks)) (length (s .occupancy .newlyOccupied)) (length (s .occupancy .newlyEmptied))
-              (length (s .groups .ids)) (length (s .records)) (s .groups .next) (ents ++ (cels ++ (occs ++ (emps ++ (idss ++ (grps ++ r))))));
+              (length (s .groups .ids)) (length (s .records)) (s .groups .next) (s .kind) (ents ++ (cels ++ (occs ++ (emps ++ (idss ++ (grps ++ r))))));
           entity-words = part-is cellsFrom ents (cels ++ (occs ++ (emps ++ (idss ++ (grps ++ r))))) from-entities at-cells;
           cell-words = part-is occupiedFrom cels (occs ++ (emps ++ (idss ++ (grps ++ r)))) from-cells at-occupied;
           occupied-words = part-is emptiedFrom occs (emps ++ (idss ++ (grps ++ r))) from-occupied at-emptied;

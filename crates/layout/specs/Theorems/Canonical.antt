@@ -12,7 +12,6 @@ use borrow.Author.Tests.{leb-true, le-leb}
 use Rattle.component.specs.Adjacent.{hasRoom}
 use Rattle.component.specs.Laws.Tests.{both}
 use Rattle.model.specs.Lists.{all, values}
-use Rattle.model.specs.Cells.{touch26}
 use Rattle.model.specs.Update.{State, mostEntities, mostCells}
 use Rattle.model.specs.Consistent.{consistent}
 use Rattle.model.specs.Laws.Tests.{T-true, true-of}
@@ -24,7 +23,7 @@ use Rattle.table.specs.Rows.{areZero}
 use Rattle.table.specs.Laws.Images.{zeros-are}
 use Rattle.layout.specs.Widths.{headerLen, spare, entityWidth, cellWidth, netWidth, idWidth, groupWidth}
 use Rattle.layout.specs.Rows.{entitiesImage, cellsImage, netImage, idsImage, groupsImage, entitiesIn, cellsIn, netIn, idsIn, groupsIn}
-use Rattle.layout.specs.State.{entitiesLen, cellsLen, netLen, idsLen, groupsLen, entitiesFrom, cellsFrom, occupiedFrom, emptiedFrom, idsFrom, groupsFrom, stateLen, header, encode, decode, spareWords, entityWords, cellWords, occupiedWords, emptiedWords, idWords, groupWords, entityCount, cellCount, occupiedCount, emptiedCount, idCount, groupCount, nextId}
+use Rattle.layout.specs.State.{entitiesLen, cellsLen, netLen, idsLen, groupsLen, entitiesFrom, cellsFrom, occupiedFrom, emptiedFrom, idsFrom, groupsFrom, stateLen, header, encode, decode, spareWords, entityWords, cellWords, occupiedWords, emptiedWords, idWords, groupWords, entityCount, cellCount, occupiedCount, emptiedCount, idCount, groupCount, nextId, kindOf}
 use Rattle.layout.specs.Points.{tidy, longEnough, consistentWords}
 use Rattle.layout.specs.Facts.{TableLaws, Fits, BeginsWith, Orderly}
 use Rattle.layout.specs.Laws.Images.{entities-laws, cells-laws, net-laws, ids-laws, groups-laws}
@@ -107,7 +106,7 @@ module _ (w : List ℕ) (long : stateLen ≤ length w) where
         ∷ sym (net-laws .counted (emptiedCount w) (emptiedWords w)) i
         ∷ sym (ids-laws .counted (idCount w) (idWords w)) i
         ∷ sym (groups-laws .counted (groupCount w) (groupWords w)) i
-        ∷ nextId w ∷ spare-is i)
+        ∷ nextId w ∷ kindOf w ∷ spare-is i)
 
     -- The words of a consistent state are its image.
     words-image : take stateLen w ≡ encode (decode w)
@@ -136,13 +135,13 @@ module _ (w : List ℕ) (long : stateLen ≤ length w) where
         ++ (sym entities i ++ (sym cells i ++ (sym occupied i ++ (sym emptied i ++ (sym ids i ++ sym groups i))))))
 
 -- Consistent words that are long enough stand for a consistent state and begin with its image.
-pub consistent-image : (w : List ℕ) → consistentWords w ≡ true → longEnough w ≡ true → T (consistent touch26 (decode w)) × (take stateLen w ≡ encode (decode w))
+pub consistent-image : (w : List ℕ) → consistentWords w ≡ true → longEnough w ≡ true → T (consistent (decode w)) × (take stateLen w ≡ encode (decode w))
 consistent-image w e l =
     let o = orderly-out w e in
     (T-true (o .yard), words-image w (leb-true stateLen (length w) l) o)
 
 -- Words that begin with the image of a consistent state are consistent.
-pub image-consistent : (s : State) (rest : List ℕ) → T (consistent touch26 s) → consistentWords (encode s ++ rest) ≡ true
+pub image-consistent : (s : State) (rest : List ℕ) → T (consistent s) → consistentWords (encode s ++ rest) ≡ true
 image-consistent s rest t =
     let w : List ℕ = encode s ++ rest in
     let f : Fits s = consistent-fits s t in
@@ -156,7 +155,7 @@ image-consistent s rest t =
       group-rows = (λ i. tidy groupWidth mostCells (st .group-count i) (st .group-words i)) ∙ image-tidy groups-laws mostCells groupsLen (s .records) (λ a m. tt) (f .groups);
       occupied-rows = (λ i. tidy netWidth mostCells (st .occupied-count i) (st .occupied-words i)) ∙ image-tidy net-laws mostCells netLen (s .occupancy .newlyOccupied) (λ a m. tt) (f .newly-occupied);
       emptied-rows = (λ i. tidy netWidth mostCells (st .emptied-count i) (st .emptied-words i)) ∙ image-tidy net-laws mostCells netLen (s .occupancy .newlyEmptied) (λ a m. tt) (f .newly-emptied);
-      yard = ap (consistent touch26) (decode-longer s t rest) ∙ true-of (consistent touch26 s) t;
+      yard = ap consistent (decode-longer s t rest) ∙ true-of (consistent s) t;
     })
 
 -- Words that begin with an image are that image and what follows it.
@@ -164,11 +163,11 @@ begins : (w : List ℕ) (s : State) → take stateLen w ≡ encode s → w ≡ e
 begins w s e = sym (take-append-drop stateLen w) ∙ ap (λ (l : List ℕ). l ++ drop stateLen w) e
 
 -- The state whose image words begin with is the one that they stand for.
-pub image-unique : (w : List ℕ) (s : State) → T (consistent touch26 s) → take stateLen w ≡ encode s → s ≡ decode w
+pub image-unique : (w : List ℕ) (s : State) → T (consistent s) → take stateLen w ≡ encode s → s ≡ decode w
 image-unique w s t e = sym (ap decode (begins w s e) ∙ decode-longer s t (drop stateLen w))
 
 -- Words that are long enough are consistent exactly if they begin with the image of a consistent state.
-pub canonical : (w : List ℕ) → longEnough w ≡ true → (consistentWords w ≡ true) ↔ ((s : State) × T (consistent touch26 s) × (take stateLen w ≡ encode s))
+pub canonical : (w : List ℕ) → longEnough w ≡ true → (consistentWords w ≡ true) ↔ ((s : State) × T (consistent s) × (take stateLen w ≡ encode s))
 canonical w l = (
   λ e. let r = consistent-image w e l in (decode w, r .0, r .1),
   λ r. ap consistentWords (begins w (r .0) (r .2)) ∙ image-consistent (r .0) (drop stateLen w) (r .1),

@@ -4,7 +4,6 @@ use mathlib.Core.Path.{_≡_, sym, ap, _∙_}
 use mathlib.Core.List.{List, [], _++_, append-nil}
 use lib.Dec.{T}
 use lib.ListN.{length}
-use Rattle.model.specs.Cells.{touch26}
 use Rattle.model.specs.Update.{State}
 use Rattle.model.specs.Consistent.{consistent}
 use Rattle.layout.specs.Rows.{entitiesIn, cellsIn, netIn, idsIn, groupsIn}
@@ -31,12 +30,13 @@ decode-stands s w fits st =
     let groups : groupsIn (groupCount w) (groupWords w) ≡ s .records =
     (λ i. groupsIn (st .group-count i) (st .group-words i)) ∙ groups-laws .read groupsLen (s .records) (λ a m. tt) in
     λ i. record {
+      kind = st .kind-is i;
       occupancy = record { entities = entities i; masks = masks i; newlyOccupied = occupied i; newlyEmptied = emptied i };
       groups = record { ids = ids i; next = st .next-id i };
       records = groups i;
     }
 
-module _ (s : State) (t : T (consistent touch26 s)) where
+module _ (s : State) (t : T (consistent s)) where
   -- The words that begin with the image of a consistent state stand for that state.
   pub decode-longer : (rest : List ℕ) → decode (encode s ++ rest) ≡ s
   decode-longer rest = decode-stands s (encode s ++ rest) (consistent-fits s t) (image-stands s (consistent-fits s t) rest)

@@ -33,7 +33,7 @@ above s = range-above (s .args .radius) (s .args .c) (omega (arith, s .fits .rad
 -- The rows are a table, and the planes about the cell are words.
 planes : (s : tie.Start) → (isTable4 cellWidth (s .args .n) (s .args .cells .now) ≡ true) × (s .args .c .z + s .args .radius < 18446744073709551615)
 planes s = (
-  cells-table (s .args .cells .now) (s .args .n) (cellsIn (s .args .n) (s .args .cells .now)) (s .pre .0),
+  cells-table (s .args .cells .now) (s .args .n) (cellsIn (s .args .n) (s .args .cells .now)) (s .pre .0 .1),
   omega (arith, in-range-axes (s .args .c) (s .pre .1) .z .1, s .fits .radius),
 )
 
@@ -103,13 +103,13 @@ returns c =
     let m = w .before .before in
     let s = m .before .before .before .before .before in
     let t = cellsIn (s .args .n) (s .args .cells .now) in
-    let h = found-has (s .args .cells .now) (s .args .n) t (s .pre .0) (s .args .c) (m .enum-told .given .0 .0) (sym (m .enum-told .given .1) ∙ m .before .before .find4 .ensures) in
+    let h = found-has (s .args .cells .now) (s .args .n) t (s .pre .0 .1) (s .args .c) (m .enum-told .given .0 .0) (sym (m .enum-told .given .1) ∙ m .before .before .find4 .ensures) in
     c .before .before .give .ensures
     ∙ cells-listed true (b .cube-into .result) (answerWidth * b .cube-into .result) (b .cube-into .last .1 .1 .1 .1 .0) (cube (having t) (s .args .c) (s .args .radius)) (s .args .answer .now) (sym h)
     (b .cube-into .ensures .1
     ∙ ap (λ (l : List ℕ). l ++ gather answerWords (keep (beside (s .args .radius) (s .args .c)) (keys (table4 cellWidth (s .args .n) (s .args .cells .now))))) (first-words (replicate (answerWidth * mostCells + answerWidth) 0) (w .write-cell .last .0) (s .args .c) (w .write-cell .ensures))
-    ∙ ap (λ (l : List Cell). answerWords (s .args .c) ++ gather answerWords (keep (beside (s .args .radius) (s .args .c)) l)) (cells-keys (s .args .cells .now) (s .args .n) t (s .pre .0))
-    ∙ cube-words (s .args .radius) (s .args .c) (above s) t (s .pre .0 .asc) true h)
+    ∙ ap (λ (l : List Cell). answerWords (s .args .c) ++ gather answerWords (keep (beside (s .args .radius) (s .args .c)) l)) (cells-keys (s .args .cells .now) (s .args .n) t (s .pre .0 .1))
+    ∙ cube-words (s .args .radius) (s .args .c) (above s) t (s .pre .0 .1 .asc) true h)
     (long b) refl
 
 same-length-2 : tie.Need-same-length-2
@@ -121,12 +121,12 @@ returns-2 c =
     let m = b .before .before in
     let s = m .before .before .before .before .before in
     let t = cellsIn (s .args .n) (s .args .cells .now) in
-    let h = missing-has (s .args .cells .now) (s .args .n) t (s .pre .0) (s .args .c) (m .enum-told2 .given .0 .0) (sym (m .enum-told2 .given .1) ∙ m .before .before .find4 .ensures) in
+    let h = missing-has (s .args .cells .now) (s .args .n) t (s .pre .0 .1) (s .args .c) (m .enum-told2 .given .0 .0) (sym (m .enum-told2 .given .1) ∙ m .before .before .find4 .ensures) in
     c .before .before .give2 .ensures
     ∙ cells-listed false (b .cube-into2 .result) (answerWidth * b .cube-into2 .result) (b .cube-into2 .last .1 .1 .1 .1 .0) (cube (having t) (s .args .c) (s .args .radius)) (s .args .answer .now) (sym h)
     (b .cube-into2 .ensures .1
-    ∙ ap (λ (l : List Cell). gather answerWords (keep (beside (s .args .radius) (s .args .c)) l)) (cells-keys (s .args .cells .now) (s .args .n) t (s .pre .0))
-    ∙ cube-words (s .args .radius) (s .args .c) (above s) t (s .pre .0 .asc) false h)
+    ∙ ap (λ (l : List Cell). gather answerWords (keep (beside (s .args .radius) (s .args .c)) l)) (cells-keys (s .args .cells .now) (s .args .n) t (s .pre .0 .1))
+    ∙ cube-words (s .args .radius) (s .args .c) (above s) t (s .pre .0 .1 .asc) false h)
     (long2 b) refl
 
 pub give-cube-spec : {M : Type 1} → statement M

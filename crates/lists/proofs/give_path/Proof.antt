@@ -4,7 +4,7 @@ use mathlib.Core.Bool.{not, _||_}
 use mathlib.Core.Path.{_≡_, sym, ap, _∙_}
 use borrow.Author.Needs.{needs}
 use Rattle.model.specs.Lists.{keys}
-use Rattle.model.specs.Cells.{touch26}
+use Rattle.model.specs.Cells.{touchAt}
 use Rattle.model.specs.Shortest.{shownPath}
 use Rattle.layout.specs.Rows.{cellsIn}
 use Rattle.neighbourhood.specs.Rows.{rowCell}
@@ -24,14 +24,14 @@ rows j =
     let e = i .before in
     let q = e .before .before .before in
     let s = q .before .before .before .before in
-    both-rows (s .args .cells .now) (s .args .n) (cellsIn (s .args .n) (s .args .cells .now)) (s .pre .0) (s .args .a) (s .args .b) (q .before .find4 .result) (q .find42 .result) (q .before .find4 .ensures) (q .find42 .ensures) (s .args .answer .now)
+    both-rows (s .args .cells .now) (s .args .n) (cellsIn (s .args .n) (s .args .cells .now)) (s .pre .0 .1) (s .args .a) (s .args .b) (q .before .find4 .result) (q .find42 .result) (q .before .find4 .ensures) (q .find42 .ensures) (s .args .answer .now)
     ((λ k. not (sym (e .before .before .is-found .ensures) k) || not (sym (e .before .is-found2 .ensures) k)) ∙ e .if1 .left) (i .index .result) (j .index2 .result) (i .index .ensures) (j .index2 .ensures)
 
 find4-requires : tie.Need-find4-requires
-find4-requires c κs = let s = c .before .before in cells-table (s .args .cells .now) (s .args .n) (cellsIn (s .args .n) (s .args .cells .now)) (s .pre .0)
+find4-requires c κs = let s = c .before .before in cells-table (s .args .cells .now) (s .args .n) (cellsIn (s .args .n) (s .args .cells .now)) (s .pre .0 .1)
 
 find4-requires-2 : tie.Need-find4-requires-2
-find4-requires-2 c κs = let s = c .before .before .before in cells-table (s .args .cells .now) (s .args .n) (cellsIn (s .args .n) (s .args .cells .now)) (s .pre .0)
+find4-requires-2 c κs = let s = c .before .before .before in cells-table (s .args .cells .now) (s .args .n) (cellsIn (s .args .n) (s .args .cells .now)) (s .pre .0 .1)
 
 is-found-requires : tie.Need-is-found-requires
 is-found-requires c κs = search needs
@@ -46,8 +46,9 @@ returns : tie.Need-returns
 returns c =
     let q = c .before .before .before .before in
     let s = q .before .before .before .before in
+    λ kind stands.
     ap (λ (r : Refusal). (listingTold (Listing.Refused r), s .args .answer .now)) (c .no-path .ensures)
-    ∙ path-missing (s .args .cells .now) (s .args .n) (cellsIn (s .args .n) (s .args .cells .now)) (s .pre .0) (s .args .a) (s .args .b) (q .before .find4 .result) (q .find42 .result) (q .before .find4 .ensures) (q .find42 .ensures) (s .args .answer .now)
+    ∙ path-missing (s .args .cells .now) (s .args .n) (cellsIn (s .args .n) (s .args .cells .now)) stands (s .args .a) (s .args .b) (q .before .find4 .result) (q .find42 .result) (q .before .find4 .ensures) (q .find42 .ensures) (s .args .answer .now)
     ((λ k. not (sym (c .before .before .before .is-found .ensures) k) || not (sym (c .before .before .is-found2 .ensures) k)) ∙ c .before .if1 .taken)
 
 index-requires : tie.Need-index-requires
@@ -72,8 +73,9 @@ returns-2 c =
     let j = p .before .before in
     let s = j .before .before .before .before .before .before .before .before .before in
     let r = rows j in
-    p .path-between .ensures
-    ∙ (λ k. pathFrom (shownPath touch26 (keys (cellsIn (s .args .n) (s .args .cells .now))) (r .2 k) (r .3 k)) (s .args .answer .now))
+    λ kind stands.
+    p .path-between .ensures kind stands
+    ∙ (λ k. pathFrom (shownPath (touchAt kind) (keys (cellsIn (s .args .n) (s .args .cells .now))) (r .2 k) (r .3 k)) (s .args .answer .now))
 
 pub give-path-spec : {M : Type 1} → statement M
 give-path-spec =

@@ -6,6 +6,7 @@ use lib.ListN.{length, replicate, length-replicate}
 use borrow.Author.Needs.{needs}
 use Rattle.model.specs.Update.{mostCells}
 use Rattle.layout.specs.Rows.{cellsIn}
+use Rattle.neighbourhood.specs.Standing.{Cells}
 use Rattle.path.specs.Walks.{Walked}
 use Rattle.layout.specs.Widths.{answerWidth}
 use Rattle.refusal.specs.declared.Refusal.{Refusal}
@@ -20,12 +21,15 @@ start w = w .before .before .before .before
 
 -- The path is written.
 told : (w : tie.After-path-rows) → let s = start w in
-    Walked (s .args .cells .now) (s .args .n) (s .args .from) (s .args .to) (replicate (answerWidth * mostCells) 0) (w .path-rows .result) (w .path-rows .last .1 .1 .1 .1 .0) (cellsIn (s .args .n) (s .args .cells .now))
-told w = let s = start w in w .path-rows .ensures (cellsIn (s .args .n) (s .args .cells .now)) (s .pre .0)
+    (kind : ℕ) → Cells kind (s .args .cells .now) (s .args .n) (cellsIn (s .args .n) (s .args .cells .now)) →
+    Walked kind (s .args .cells .now) (s .args .n) (s .args .from) (s .args .to) (replicate (answerWidth * mostCells) 0) (w .path-rows .result) (w .path-rows .last .1 .1 .1 .1 .0) (cellsIn (s .args .n) (s .args .cells .now))
+told w kind stands = let s = start w in w .path-rows .ensures kind (cellsIn (s .args .n) (s .args .cells .now)) stands
 
 -- The words have space for it.
 long : (w : tie.After-path-rows) → (w .path-rows .result ≤ mostCells) × (answerWidth * w .path-rows .result ≤ length (w .path-rows .last .1 .1 .1 .1 .0))
-long w = (omega (arith, told w .few, start w .pre .3), omega (arith, told w .few, start w .pre .3, w .path-rows .kept .1 .1 .1 .1 .0))
+long w =
+    let t = told w (start w .pre .0 .0) (start w .pre .0 .1) in
+    (omega (arith, t .few, start w .pre .3), omega (arith, t .few, start w .pre .3, w .path-rows .kept .1 .1 .1 .1 .0))
 
 slice-aggregate-path-rows : tie.Need-slice-aggregate-path-rows
 slice-aggregate-path-rows c = search needs
@@ -33,7 +37,7 @@ slice-aggregate-path-rows c = search needs
 path-rows-requires : tie.Need-path-rows-requires
 path-rows-requires c κs =
     let s = c .before .before .before in
-    (record { table = cellsIn (s .args .n) (s .args .cells .now); cells = s .pre .0 }, s .pre .1, s .pre .2, s .pre .3, omega (arith, s .pre .3, length-replicate {A = ℕ} (answerWidth * mostCells) 0))
+    (record { kind = s .pre .0 .0; table = cellsIn (s .args .n) (s .args .cells .now); cells = s .pre .0 .1 }, s .pre .1, s .pre .2, s .pre .3, omega (arith, s .pre .3, length-replicate {A = ℕ} (answerWidth * mostCells) 0))
 
 no-path-requires : tie.Need-no-path-requires
 no-path-requires c κs = search needs
@@ -42,8 +46,9 @@ returns : tie.Need-returns
 returns c =
     let w = c .before .before .before in
     let s = start w in
+    λ kind stands.
     ap (λ (r : Refusal). (listingTold (Listing.Refused r), s .args .answer .now)) (c .no-path .ensures)
-    ∙ path-no (s .args .cells .now) (s .args .n) (cellsIn (s .args .n) (s .args .cells .now)) (s .pre .0) (s .args .from) (s .args .to) (replicate (answerWidth * mostCells) 0) _ (w .path-rows .result) (told w) (s .args .answer .now) (c .before .if1 .taken)
+    ∙ path-no (s .args .cells .now) (s .args .n) (cellsIn (s .args .n) (s .args .cells .now)) stands (s .args .from) (s .args .to) (replicate (answerWidth * mostCells) 0) _ (w .path-rows .result) (told w kind stands) (s .args .answer .now) (c .before .if1 .taken)
 
 slice-aggregate-give : tie.Need-slice-aggregate-give
 slice-aggregate-give c = sym (c .before .before .before .path-rows .kept .1 .1 .1 .1 .0)
@@ -63,8 +68,9 @@ returns-2 c =
     let i = g .before .before .before in
     let w = i .before .before in
     let s = start w in
+    λ kind stands.
     g .give .ensures
-    ∙ path-yes (s .args .cells .now) (s .args .n) (cellsIn (s .args .n) (s .args .cells .now)) (s .pre .0) (s .args .from) (s .args .to) (replicate (answerWidth * mostCells) 0) _ (w .path-rows .result) (told w) (s .args .answer .now) (i .if1 .left) (long w .1)
+    ∙ path-yes (s .args .cells .now) (s .args .n) (cellsIn (s .args .n) (s .args .cells .now)) stands (s .args .from) (s .args .to) (replicate (answerWidth * mostCells) 0) _ (w .path-rows .result) (told w kind stands) (s .args .answer .now) (i .if1 .left) (long w .1)
 
 pub path-between-spec : {M : Type 1} → statement M
 path-between-spec =

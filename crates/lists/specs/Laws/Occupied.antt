@@ -7,9 +7,9 @@ use mathlib.Core.List.{List, [], _∷_, _++_, List·Memᴰ as Mem, Memᴰ·cast 
 use lib.ListN.{length, take, drop}
 use lib.Seq.{take-append-seam}
 use Rattle.model.specs.Lists.{each, has, keys, gather, count}
-use Rattle.model.specs.Cells.{Cell, same, below, touch26}
+use Rattle.model.specs.Cells.{Cell, same, below, touchAt}
 use Rattle.model.specs.Masks.{bit, touching}
-use Rattle.model.specs.Questions.{nearby}
+use Rattle.model.specs.Questions.{nearbyBy}
 use Rattle.model.specs.Laws.Tests.{true-of, false-of}
 use Rattle.model.specs.Laws.Orders.{cells}
 use Rattle.model.specs.Laws.Members.{keep-shorter, each-length, count-length, has-of, hasnt-of}
@@ -48,7 +48,7 @@ rows-few words i = few (setOf words i (count 0 26)) (keep-shorter (bit (rowMask 
     few : (l : List ℕ) → length l ≤ length (count 0 26) → length (each (rowNear words i) l) ≤ 26
     few l h = omega (arith, each-length (rowNear words i) l, count-length 0 26)
 
-module _ (words : List ℕ) (n : ℕ) (t : List (Cell × ℕ)) (k : Cells words n t) where
+module _ {kind : ℕ} (words : List ℕ) (n : ℕ) (t : List (Cell × ℕ)) (k : Cells kind words n t) where
   module _ (c : Cell) (i : ℕ) (e : Found i ≡ placeOf below (keys (table4 cellWidth n words)) c) where
     found-in : Mem c (keys t)
     found-in =
@@ -69,26 +69,26 @@ module _ (words : List ℕ) (n : ℕ) (t : List (Cell × ℕ)) (k : Cells words 
     found-cell = ap (λ (p : Place). rowCell words (placed p)) e ∙ row-for words n t k c found-in .1
 
     -- It touches few.
-    list-few : length (touching touch26 (keys t) (rowCell words i)) ≤ 26
+    list-few : length (touching (touchAt kind) (keys t) (rowCell words i)) ≤ 26
     list-few =
-        few-of (rowList words i) (touching touch26 (keys t) (rowCell words i)) (row-list words n t k i found-there) (rows-few words i)
+        few-of (rowList words i) (touching (touchAt kind) (keys t) (rowCell words i)) (row-list words n t k i found-there) (rows-few words i)
 
     -- What is asked to write it and those.
     pub nearby-asked : (answer : List ℕ) → 108 ≤ length answer → NearbyAsked words n i answer
-    nearby-asked answer h = record { table = t; cells = k; there = found-there; space = omega (arith, list-few) }
+    nearby-asked answer h = record { kind = kind; table = t; cells = k; there = found-there; space = omega (arith, list-few) }
 
-    module _ (answer answer′ : List ℕ) (r : ℕ) (w : Nearby words i answer r answer′ t) where
+    module _ (answer answer′ : List ℕ) (r : ℕ) (w : Nearby kind words i answer r answer′ t) where
       -- It and its list are few.
       pub nearby-few : answerWidth * r ≤ 108
       nearby-few = omega (arith, w .number, list-few)
 
       -- They are what the question asks for.
-      pub nearby-words : take (answerWidth * r) answer′ ≡ gather answerWords (nearby touch26 (having t) c .list)
+      pub nearby-words : take (answerWidth * r) answer′ ≡ gather answerWords (nearbyBy (touchAt kind) (having t) c .list)
       nearby-words =
           (λ j. take (answerWidth * w .number j) (w .written j))
-          ∙ filled-take answer (rowCell words i ∷ touching touch26 (keys t) (rowCell words i))
-          ∙ ap (λ (d : Cell). gather answerWords (d ∷ touching touch26 (keys t) d)) found-cell
-          ∙ ap (λ (b : Bool). gather answerWords (cond b (c ∷ touching touch26 (keys t) c) [])) (sym found-has)
+          ∙ filled-take answer (rowCell words i ∷ touching (touchAt kind) (keys t) (rowCell words i))
+          ∙ ap (λ (d : Cell). gather answerWords (d ∷ touching (touchAt kind) (keys t) d)) found-cell
+          ∙ ap (λ (b : Bool). gather answerWords (cond b (c ∷ touching (touchAt kind) (keys t) c) [])) (sym found-has)
 
   -- A cell that is missing is not occupied.
   pub missing-has : (c : Cell) (i : ℕ) → Missing i ≡ placeOf below (keys (table4 cellWidth n words)) c → has same (keys t) c ≡ false
@@ -98,5 +98,5 @@ module _ (words : List ℕ) (n : ℕ) (t : List (Cell × ℕ)) (k : Cells words 
       missing-key cells c (keys (table4 cellWidth n words)) i (subst (Asc below) (sym (cells-keys words n t k)) (k .asc)) e (subst (λ (l : List Cell). Mem c l) (sym (cells-keys words n t k)) m)))
 
   -- Then its list is empty.
-  pub missing-words : (c : Cell) (i : ℕ) → Missing i ≡ placeOf below (keys (table4 cellWidth n words)) c → [] ≡ gather answerWords (nearby touch26 (having t) c .list)
-  missing-words c i e = ap (λ (b : Bool). gather answerWords (cond b (c ∷ touching touch26 (keys t) c) [])) (sym (missing-has c i e))
+  pub missing-words : (c : Cell) (i : ℕ) → Missing i ≡ placeOf below (keys (table4 cellWidth n words)) c → [] ≡ gather answerWords (nearbyBy (touchAt kind) (having t) c .list)
+  missing-words c i e = ap (λ (b : Bool). gather answerWords (cond b (c ∷ touching (touchAt kind) (keys t) c) [])) (sym (missing-has c i e))

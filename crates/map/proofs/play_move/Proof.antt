@@ -23,8 +23,8 @@ same-length c = search needs
 returns : tie.Need-returns
 returns c =
     let s = c .before .before .before .before .before .before .before .before .before .before .before .before in let a = s .args in let f = c .before .before .before .before .before .stand-of in let d = c .before .before .before .s .given .0 .0 in
-    λ o h. subst (λ (u : Occupancy). Held (a .ents .now) (a .cells .now) (a .crowd .now) (a .occ .now) (a .emp .now) (a .n) u)
-    (move-still o (a .e) (a .c) d (stands-at (a .ents .now) (a .cells .now) (a .crowd .now) (a .occ .now) (a .emp .now) (a .n) o h (a .e) (f .result) d (c .before .before .before .s .given .1) (f .ensures)) (sym (c .before .same-cell .ensures) ∙ c .if1 .taken)) h
+    λ o h. subst (λ (u : Occupancy). Held (a .kind) (a .ents .now) (a .cells .now) (a .crowd .now) (a .occ .now) (a .emp .now) (a .n) u)
+    (move-still (a .kind) o (a .e) (a .c) d (stands-at (a .ents .now) (a .cells .now) (a .crowd .now) (a .occ .now) (a .emp .now) (a .n) o h (a .e) (f .result) d (c .before .before .before .s .given .1) (f .ensures)) (sym (c .before .same-cell .ensures) ∙ c .if1 .taken)) h
 
 relocate-requires : tie.Need-relocate-requires
 relocate-requires c κs =
@@ -59,8 +59,8 @@ returns-2 c =
     let s = c .before .before .before .before .before .before .before .before .before .before .before .before .before .before .before .before .before .before .before .before .before .before .before .before .before .before .before .before in let a = s .args in let f = c .before .before .before .before .before .before .before .before .before .before .before .before .before .before .before .before .before .before .before .before .before .stand-of in let d = c .before .before .before .before .before .before .before .before .before .before .before .before .before .before .before .before .before .before .before .s .given .0 .0 in let r = c .before .before .before .before .before .before .before .before .before .before .relocate in
     λ o h.
     let p = stands-at (a .ents .now) (a .cells .now) (a .crowd .now) (a .occ .now) (a .emp .now) (a .n) o h (a .e) (f .result) d (c .before .before .before .before .before .before .before .before .before .before .before .before .before .before .before .before .before .before .before .s .given .1) (f .ensures) in
-    subst (λ (u : Occupancy). Held (r .last .0) (r .last .1 .0) (r .last .1 .1 .0) (r .last .1 .1 .1 .0) (r .last .1 .1 .1 .1 .0) (r .result) u)
-    (move-known o (a .e) (a .c) d p (sym (c .before .before .before .before .before .before .before .before .before .before .before .before .before .before .before .before .before .same-cell .ensures) ∙ c .before .before .before .before .before .before .before .before .before .before .before .before .before .before .before .before .if1 .left)) (r .ensures o (can-move (a .ents .now) (a .cells .now) (a .crowd .now) (a .occ .now) (a .emp .now) (a .n) o h (a .e) (a .c) (s .pre .2) (s .pre .3) d p (s .pre .4)))
+    subst (λ (u : Occupancy). Held (a .kind) (r .last .0) (r .last .1 .0) (r .last .1 .1 .0) (r .last .1 .1 .1 .0) (r .last .1 .1 .1 .1 .0) (r .result) u)
+    (move-known (a .kind) o (a .e) (a .c) d p (sym (c .before .before .before .before .before .before .before .before .before .before .before .before .before .before .before .before .before .same-cell .ensures) ∙ c .before .before .before .before .before .before .before .before .before .before .before .before .before .before .before .before .if1 .left)) (r .ensures o (can-move (a .ents .now) (a .cells .now) (a .crowd .now) (a .occ .now) (a .emp .now) (a .n) o h (a .e) (a .c) (s .pre .2) (s .pre .3) d p (s .pre .4)))
 
 same-length-7 : tie.Need-same-length-7
 same-length-7 c = c .before .before .before .before .before .before .before .before .before .before .insert .kept .0
@@ -82,7 +82,7 @@ returns-3 c =
     let s = c .before .before .before .before .before .before .before .before .before .before .before .before .before .before .before .before .before .before .before .before .before .before .before .before .before in let a = s .args in let f = c .before .before .before .before .before .before .before .before .before .before .before .before .before .before .before .before .before .before .stand-of in let r = c .before .before .before .before .before .before .before .before .before .before .insert in
     λ o h.
     let p = stands-nowhere (a .ents .now) (a .cells .now) (a .crowd .now) (a .occ .now) (a .emp .now) (a .n) o h (a .e) (f .result) (c .before .before .before .before .before .before .before .before .before .before .before .before .before .before .before .before .enum-told .given .1) (f .ensures) in
-    subst (λ (u : Occupancy). Held (r .last .0) (r .last .1 .0) (r .last .1 .1 .0) (r .last .1 .1 .1 .0) (r .last .1 .1 .1 .1 .0) (r .result) u) (move-unknown o (a .e) (a .c) p)
+    subst (λ (u : Occupancy). Held (a .kind) (r .last .0) (r .last .1 .0) (r .last .1 .1 .0) (r .last .1 .1 .1 .0) (r .last .1 .1 .1 .1 .0) (r .result) u) (move-unknown (a .kind) o (a .e) (a .c) p)
     (r .ensures o (can-enter (a .ents .now) (a .cells .now) (a .crowd .now) (a .occ .now) (a .emp .now) (a .n) o h (a .e) (a .c) (s .pre .2) (s .pre .3) p))
 
 pub play-move-spec : {M : Type 1} → statement M

@@ -47,8 +47,8 @@ returns c =
     let s = c .before .before .before .before .before .before .before .before .before .before .before .before .before .before .before .before .before .before .before .before .before .before .before .before .before .before in let a = s .args in
     λ o h.
     let p = stands-at (a .ents .now) (a .cells .now) (a .crowd .now) (a .occ .now) (a .emp .now) (a .n) o h (a .e) (c .before .before .before .before .before .before .before .before .before .before .before .before .before .before .before .before .before .before .before .stand-of .result) (c .before .before .before .before .before .before .before .before .before .before .before .before .before .before .before .before .before .s .given .0 .0) (c .before .before .before .before .before .before .before .before .before .before .before .before .before .before .before .before .before .s .given .1) (c .before .before .before .before .before .before .before .before .before .before .before .before .before .before .before .before .before .before .before .stand-of .ensures) in
-    subst (λ (u : Occupancy). Held (c .before .before .before .before .before .before .before .before .before .before .remove .last .0) (c .before .before .before .before .before .before .before .before .before .before .remove .last .1 .0) (c .before .before .before .before .before .before .before .before .before .before .remove .last .1 .1 .0) (c .before .before .before .before .before .before .before .before .before .before .remove .last .1 .1 .1 .0) (c .before .before .before .before .before .before .before .before .before .before .remove .last .1 .1 .1 .1 .0) (c .before .before .before .before .before .before .before .before .before .before .remove .result) u)
-    (removal-known o (a .e) (c .before .before .before .before .before .before .before .before .before .before .before .before .before .before .before .before .before .s .given .0 .0) p) (c .before .before .before .before .before .before .before .before .before .before .remove .ensures o (can-leave (a .ents .now) (a .cells .now) (a .crowd .now) (a .occ .now) (a .emp .now) (a .n) o h (a .e) (c .before .before .before .before .before .before .before .before .before .before .before .before .before .before .before .before .before .s .given .0 .0) p (s .pre .2)))
+    subst (λ (u : Occupancy). Held (a .kind) (c .before .before .before .before .before .before .before .before .before .before .remove .last .0) (c .before .before .before .before .before .before .before .before .before .before .remove .last .1 .0) (c .before .before .before .before .before .before .before .before .before .before .remove .last .1 .1 .0) (c .before .before .before .before .before .before .before .before .before .before .remove .last .1 .1 .1 .0) (c .before .before .before .before .before .before .before .before .before .before .remove .last .1 .1 .1 .1 .0) (c .before .before .before .before .before .before .before .before .before .before .remove .result) u)
+    (removal-known (a .kind) o (a .e) (c .before .before .before .before .before .before .before .before .before .before .before .before .before .before .before .before .before .s .given .0 .0) p) (c .before .before .before .before .before .before .before .before .before .before .remove .ensures o (can-leave (a .ents .now) (a .cells .now) (a .crowd .now) (a .occ .now) (a .emp .now) (a .n) o h (a .e) (c .before .before .before .before .before .before .before .before .before .before .before .before .before .before .before .before .before .s .given .0 .0) p (s .pre .2)))
 
 same-length-6 : tie.Need-same-length-6
 same-length-6 c = search needs
@@ -57,7 +57,7 @@ returns-2 : tie.Need-returns-2
 returns-2 c =
     let s = c .before .before .before .before .before .before .before .before .before in let a = s .args in
     λ o h.
-    subst (λ (u : Occupancy). Held (a .ents .now) (a .cells .now) (a .crowd .now) (a .occ .now) (a .emp .now) (a .n) u) (removal-unknown o (a .e) (stands-nowhere (a .ents .now) (a .cells .now) (a .crowd .now) (a .occ .now) (a .emp .now) (a .n) o h (a .e) (c .before .before .stand-of .result) (c .enum-told .given .1) (c .before .before .stand-of .ensures))) h
+    subst (λ (u : Occupancy). Held (a .kind) (a .ents .now) (a .cells .now) (a .crowd .now) (a .occ .now) (a .emp .now) (a .n) u) (removal-unknown (a .kind) o (a .e) (stands-nowhere (a .ents .now) (a .cells .now) (a .crowd .now) (a .occ .now) (a .emp .now) (a .n) o h (a .e) (c .before .before .stand-of .result) (c .enum-told .given .1) (c .before .before .stand-of .ensures))) h
 
 pub play-removal-spec : {M : Type 1} → statement M
 play-removal-spec =

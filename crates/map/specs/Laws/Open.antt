@@ -6,29 +6,29 @@ use mathlib.Core.List.{List, [], _∷_}
 use Rattle.component.specs.Order.{same, below}
 use Rattle.component.specs.declared.Cell.{Cell}
 use Rattle.component.specs.Adjacent.{hasRoom}
-use Rattle.component.specs.Touch.{touches}
 use Rattle.model.specs.Lists.{has, each, add, without, keys, put, dropKey, change}
-use Rattle.model.specs.Cells.{all26, touch26}
+use Rattle.model.specs.Cells.{offsetsOf, touchAt}
+use Rattle.model.specs.Masks.{maskOf, masked}
 use Rattle.model.specs.Laws.Tests.{T-false, same-test}
 use Rattle.model.specs.Laws.Orders.{Ordered, cells}
 use Rattle.model.specs.Laws.Members.{keep-each, each-each, each-same}
-use Rattle.model.specs.Laws.Touching.{touching-26, touch26-touches}
+use Rattle.model.specs.Laws.Kinds.{kind-touching}
 use Rattle.model.specs.Places.{slot}
-use Rattle.model.specs.Laws.Slots.{joined, left}
+use Rattle.model.specs.Laws.Slots.{joined, left, masked-add, masked-without}
 use Rattle.layout.specs.Rows.{neighbourOf, idRow, netRow}
-use Rattle.map.specs.Told.{revisedMask, revised, told}
+use Rattle.map.specs.Told.{revisedMask, revised, ofKind, told}
 use Rattle.map.specs.Laws.Each.{change-each}
 use Rattle.map.specs.Laws.Near.{told-cell}
 
 -- What the mask of d becomes when c joins or leaves.
-abbrev pub ruleOf : Bool → Cell → Cell → ℕ → ℕ
-ruleOf true c d m = joined all26 c d m
-ruleOf false c d m = left all26 c d m
+abbrev pub ruleOf : ℕ → Bool → Cell → Cell → ℕ → ℕ
+ruleOf kind true c d m = joined (offsetsOf kind) c d m
+ruleOf kind false c d m = left (offsetsOf kind) c d m
 
-rule-is : (joins : Bool) (c d : Cell) (m : ℕ) → cond (touch26 d c) (revisedMask joins (slot d c) m) m ≡ ruleOf joins c d m
-unfolding revisedMask
-rule-is true c d m = refl
-rule-is false c d m = refl
+rule-is : (kind : ℕ) (joins : Bool) (c d : Cell) (m : ℕ) → cond (touchAt kind d c) (revisedMask joins (slot d c) m) m ≡ ruleOf kind joins c d m
+unfolding revisedMask touchAt
+rule-is kind true c d m = refl
+rule-is kind false c d m = refl
 
 -- The word of a row that is revised or not.
 word-is : (joins b : Bool) (w m : ℕ) → cond b (revised joins w (m ∷ [])) (m ∷ []) ≡ cond b (revisedMask joins w m) m ∷ []
@@ -37,18 +37,27 @@ word-is joins true w m = refl
 word-is joins false w m = refl
 
 -- The masks once c has joined those of its neighbours, or left them.
-pub masks-told : (joins : Bool) (c : Cell) → hasRoom 1 c ≡ true → (t : List (Cell × ℕ)) → change (told joins (neighbourOf c) 26) (each idRow t) ≡ each idRow (change (ruleOf joins c) t)
-masks-told joins c room t = change-each (λ d m. m ∷ []) (told joins (neighbourOf c) 26) (ruleOf joins c) t (λ p q. one (p .0) (p .1))
+pub masks-told : (kind : ℕ) (joins : Bool) (c : Cell) → hasRoom 1 c ≡ true → (t : List (Cell × ℕ)) → change (told (ofKind kind) joins (neighbourOf c) 26) (each idRow t) ≡ each idRow (change (ruleOf kind joins c) t)
+masks-told kind joins c room t = change-each (λ d m. m ∷ []) (told (ofKind kind) joins (neighbourOf c) 26) (ruleOf kind joins c) t (λ p q. one (p .0) (p .1))
   where
-    turned : (d : Cell) → touches c d ≡ touch26 d c
-    turned d = sym (touch26-touches c d) ∙ same-test (touch26 c d) (touch26 d c) (touching-26 .flip c d) (touching-26 .flip d c)
+    turned : (d : Cell) → touchAt kind c d ≡ touchAt kind d c
+    turned d = same-test (touchAt kind c d) (touchAt kind d c) (kind-touching kind .flip c d) (kind-touching kind .flip d c)
 
-    one : (d : Cell) (m : ℕ) → told joins (neighbourOf c) 26 d (m ∷ []) ≡ ruleOf joins c d m ∷ []
+    one : (d : Cell) (m : ℕ) → told (ofKind kind) joins (neighbourOf c) 26 d (m ∷ []) ≡ ruleOf kind joins c d m ∷ []
     one d m =
-        told-cell c room joins d (m ∷ [])
-        ∙ word-is joins (touches c d) (slot d c) m
+        told-cell kind c room joins d (m ∷ [])
+        ∙ word-is joins (touchAt kind c d) (slot d c) m
         ∙ ap (λ (b : Bool). cond b (revisedMask joins (slot d c) m) m ∷ []) (turned d)
-        ∙ ap (λ (n : ℕ). n ∷ []) (rule-is joins c d m)
+        ∙ ap (λ (n : ℕ). n ∷ []) (rule-is kind joins c d m)
+
+-- All masks of some cells once c has joined them, and once it has left.
+pub masks-joined : (kind : ℕ) (l : List Cell) (c : Cell) → masked (touchAt kind) (add below c l) ≡ put below c (maskOf (touchAt kind) l c) (change (ruleOf kind true c) (masked (touchAt kind) l))
+unfolding touchAt
+masks-joined kind l c = masked-add (offsetsOf kind) l c
+
+pub masks-left : (kind : ℕ) (l : List Cell) (c : Cell) → masked (touchAt kind) (without same c l) ≡ change (ruleOf kind false c) (dropKey same c (masked (touchAt kind) l))
+unfolding touchAt
+masks-left kind l c = masked-without (offsetsOf kind) l c
 
 module _ {eq lt : Cell → Cell → Bool} (laws : Ordered eq lt) (c : Cell) where
   -- A cell that is put into a net list is added.

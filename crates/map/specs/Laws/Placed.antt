@@ -6,7 +6,7 @@ use mathlib.Core.Bool.{Bool, true, false, cond, not}
 use mathlib.Core.List.{List, List·Memᴰ as Mem}
 use lib.Dec.{eqb, ltb}
 use Rattle.model.specs.Lists.{has, add, put, dropKey}
-use Rattle.model.specs.Cells.{Cell, same, below, cellInRange, touch26}
+use Rattle.model.specs.Cells.{Cell, same, below, cellInRange, touchAt}
 use Rattle.model.specs.Occupancy.{Occupancy, occupied, standsIn, withEntities, leaves, enters, openCell, closeCell, enter, leave}
 use Rattle.model.specs.Laws.Tests.{T-true}
 use Rattle.model.specs.Laws.Orders.{cells}
@@ -60,29 +60,29 @@ module _ (touch : Cell → Cell → Bool) (c : Cell) (o : Occupancy) (x : Nets o
 nets-with : (l : List (ℕ × Cell)) (o : Occupancy) → Nets o → Nets (withEntities l o)
 nets-with l o x = record { opened-asc = x .opened-asc; emptied-asc = x .emptied-asc; opened-in = x .opened-in; emptied-out = x .emptied-out }
 
-placed-nets : (o : Occupancy) → Placed o → Nets o
+placed-nets : {kind : ℕ} (o : Occupancy) → Placed kind o → Nets o
 placed-nets o x = record { opened-asc = x .opened-asc; emptied-asc = x .emptied-asc; opened-in = x .opened-in; emptied-out = x .emptied-out }
 
-placed-of : (o : Occupancy) → Sound touch26 o → Inside cellInRange o → Nets o → Placed o
+placed-of : {kind : ℕ} (o : Occupancy) → Sound (touchAt kind) o → Inside cellInRange o → Nets o → Placed kind o
 placed-of o s i x = record { sound = s; inside = i; opened-asc = x .opened-asc; emptied-asc = x .emptied-asc; opened-in = x .opened-in; emptied-out = x .emptied-out }
 
-module _ (o : Occupancy) (ok : Placed o) (e : ℕ) (c : Cell) where
+module _ {kind : ℕ} (o : Occupancy) (ok : Placed kind o) (e : ℕ) (c : Cell) where
   -- An entity enters.
-  pub enter-placed : Free eqb (o .entities) e → cellInRange c ≡ true → Placed (enter touch26 e c o)
+  pub enter-placed : Free eqb (o .entities) e → cellInRange c ≡ true → Placed kind (enter (touchAt kind) e c o)
   enter-placed n r =
-      placed-of (enter touch26 e c o) (enter-sound touch26 e c o (ok .sound) n)
-      (pass-inside touch26 cellInRange o (enters e c) (ok .inside) n (T-true r)) (go (standsIn (o .entities) c))
+      placed-of (enter (touchAt kind) e c o) (enter-sound (touchAt kind) e c o (ok .sound) n)
+      (pass-inside (touchAt kind) cellInRange o (enters e c) (ok .inside) n (T-true r)) (go (standsIn (o .entities) c))
     where
-      go : (b : Bool) → Nets (withEntities (put ltb e c (o .entities)) (cond b o (openCell touch26 c o)))
+      go : (b : Bool) → Nets (withEntities (put ltb e c (o .entities)) (cond b o (openCell (touchAt kind) c o)))
       go true = nets-with (put ltb e c (o .entities)) o (placed-nets o ok)
-      go false = nets-with (put ltb e c (o .entities)) (openCell touch26 c o) (open-nets touch26 c o (placed-nets o ok))
+      go false = nets-with (put ltb e c (o .entities)) (openCell (touchAt kind) c o) (open-nets (touchAt kind) c o (placed-nets o ok))
 
   -- An entity leaves.
-  pub leave-placed : At eqb (o .entities) e c → Placed (leave touch26 e c o)
+  pub leave-placed : At eqb (o .entities) e c → Placed kind (leave (touchAt kind) e c o)
   leave-placed p =
-      placed-of (leave touch26 e c o) (leave-sound touch26 e c o (ok .sound) p)
-      (pass-inside touch26 cellInRange o (leaves e c) (ok .inside) p tt) (go (standsIn (dropKey eqb e (o .entities)) c))
+      placed-of (leave (touchAt kind) e c o) (leave-sound (touchAt kind) e c o (ok .sound) p)
+      (pass-inside (touchAt kind) cellInRange o (leaves e c) (ok .inside) p tt) (go (standsIn (dropKey eqb e (o .entities)) c))
     where
-      go : (b : Bool) → Nets (withEntities (dropKey eqb e (o .entities)) (cond b o (closeCell touch26 c o)))
+      go : (b : Bool) → Nets (withEntities (dropKey eqb e (o .entities)) (cond b o (closeCell (touchAt kind) c o)))
       go true = nets-with (dropKey eqb e (o .entities)) o (placed-nets o ok)
-      go false = nets-with (dropKey eqb e (o .entities)) (closeCell touch26 c o) (close-nets touch26 c o (placed-nets o ok))
+      go false = nets-with (dropKey eqb e (o .entities)) (closeCell (touchAt kind) c o) (close-nets (touchAt kind) c o (placed-nets o ok))

@@ -8,13 +8,12 @@ use lib.ListN.{length}
 use Rattle.component.specs.Adjacent.{hasRoom}
 use Rattle.component.specs.Laws.Adjacent.{range-room}
 use Rattle.model.specs.Lists.{each, has, add, without, keys, put, dropKey, change}
-use Rattle.model.specs.Cells.{Cell, same, below, cellInRange, all26, touch26}
-use Rattle.model.specs.Masks.{maskOf, masked}
+use Rattle.model.specs.Cells.{Cell, same, below, cellInRange, touchAt}
+use Rattle.model.specs.Masks.{maskOf}
 use Rattle.model.specs.Occupancy.{Occupancy, occupied, openCell, closeCell}
 use Rattle.model.specs.Laws.Tests.{true-of}
 use Rattle.model.specs.Laws.Members.{each-length}
 use Rattle.model.specs.Laws.Sorted.{Asc}
-use Rattle.model.specs.Laws.Slots.{joined, left, masked-add, masked-without}
 use Rattle.model.specs.Laws.Occupied.{occupied-asc, occupied-out}
 use Rattle.layout.specs.Widths.{cellWidth, netWidth}
 use Rattle.layout.specs.Rows.{neighbourOf, idRow, netRow, cellsImage, netImage}
@@ -23,11 +22,11 @@ use Rattle.table.specs.Rows.{cell, table4, stored4}
 use Rattle.table.specs.Laws.Kinds.{cell-lawful}
 use Rattle.table.specs.Laws.Next.{put-next, drop-next}
 use Rattle.map.specs.declared.Counts.{Counts}
-use Rattle.map.specs.Told.{TableIs, told, noted}
+use Rattle.map.specs.Told.{TableIs, ofKind, told, noted}
 use Rattle.map.specs.Held.{Placed, Stored}
 use Rattle.map.specs.Laws.Each.{keys-each, put-each, drop-each, image-shows, shows-image, shows-count, shows-fit}
 use Rattle.map.specs.Laws.Near.{noted-mask}
-use Rattle.map.specs.Laws.Open.{masks-told, net-keys, net-left, net-joined}
+use Rattle.map.specs.Laws.Open.{ruleOf, masks-told, masks-joined, masks-left, net-keys, net-left, net-joined}
 
 -- The words show the masks and both net lists.
 pub record Shown (cells occ emp : List ℕ) (n : Counts) (o : Occupancy) : Type 0 where
@@ -57,14 +56,14 @@ unfolding netImage
 net-shows s n l e c a =
     image-shows cell cell-lawful netWidth n s (each netRow l) e (c ∙ sym (each-length netRow l)) (omega arith) (nets-wide l) (subst (Asc below) (sym (net-keys l)) a)
 
-module _ (o : Occupancy) (ok : Placed o) where
+module _ {kind : ℕ} (o : Occupancy) (ok : Placed kind o) where
   -- An occupied cell is in range, so its block has room.
   pub occupied-room : (c : Cell) → Mem c (occupied o) → hasRoom 1 c ≡ true
-  occupied-room c m = range-room 1 c (omega arith) (true-of (cellInRange c) (ok .inside .stood (occupied-out touch26 o (ok .sound) m)))
+  occupied-room c m = range-room 1 c (omega arith) (true-of (cellInRange c) (ok .inside .stood (occupied-out (touchAt kind) o (ok .sound) m)))
 
   -- The occupied cells ascend.
   pub placed-asc : Asc below (occupied o)
-  placed-asc = occupied-asc touch26 o (ok .sound)
+  placed-asc = occupied-asc (touchAt kind) o (ok .sound)
 
   masks-shows : (s : List ℕ) (n : ℕ) → s ≡ cellsImage (length s) (o .masks) → n ≡ length (o .masks) → TableIs cell cellWidth n s (each idRow (o .masks))
   unfolding cellsImage
@@ -85,22 +84,22 @@ module _ (o : Occupancy) (ok : Placed o) where
   module _ (c : Cell) (m : ℕ) (cells : List ℕ) (x : TableIs cell cellWidth m cells (each idRow (o .masks))) where
     -- The table of masks after c opens.
     pub open-masks : hasRoom 1 c ≡ true → (told-cells after : List ℕ) (len k w : ℕ)
-        → w ≡ noted (keys (table4 cellWidth m cells)) (neighbourOf c) 26
-        → TableIs cell cellWidth m told-cells (change (told true (neighbourOf c) 26) (table4 cellWidth m cells))
+        → w ≡ noted (ofKind kind) (keys (table4 cellWidth m cells)) (neighbourOf c) 26
+        → TableIs cell cellWidth m told-cells (change (told (ofKind kind) true (neighbourOf c) 26) (table4 cellWidth m cells))
         → (k, after) ≡ stored4 len (put below c (w ∷ []) (table4 cellWidth m told-cells))
-        → TableIs cell cellWidth k after (each idRow (openCell touch26 c o .masks))
+        → TableIs cell cellWidth k after (each idRow (openCell (touchAt kind) c o .masks))
     open-masks room told-cells after len k w e y q =
-        let v : ℕ = maskOf touch26 (occupied o) c in
-        let f : w ≡ v = e ∙ ap (λ (l : List Cell). noted l (neighbourOf c) 26) (ap keys (x .is) ∙ keys-each (λ d n. n ∷ []) (o .masks)) ∙ noted-mask c room (occupied o) in
-        let g : change (told true (neighbourOf c) 26) (table4 cellWidth m cells) ≡ each idRow (change (joined all26 c) (o .masks)) =
-        ap (change (told true (neighbourOf c) 26)) (x .is) ∙ masks-told true c room (o .masks) in
+        let v : ℕ = maskOf (touchAt kind) (occupied o) c in
+        let f : w ≡ v = e ∙ ap (λ (l : List Cell). noted (ofKind kind) l (neighbourOf c) 26) (ap keys (x .is) ∙ keys-each (λ d n. n ∷ []) (o .masks)) ∙ noted-mask kind c room (occupied o) in
+        let g : change (told (ofKind kind) true (neighbourOf c) 26) (table4 cellWidth m cells) ≡ each idRow (change (ruleOf kind true c) (o .masks)) =
+        ap (change (told (ofKind kind) true (neighbourOf c) 26)) (x .is) ∙ masks-told kind true c room (o .masks) in
         let nx = put-next cell cellWidth cell-lawful m told-cells (y .table) len k after c (w ∷ []) refl q in
         record {
           table = nx .0;
           is = nx .1
               ∙ (λ i. put below c (f i ∷ []) ((y .is ∙ g) i))
-              ∙ put-each (λ d n. n ∷ []) below c v (change (joined all26 c) (o .masks))
-              ∙ ap (each idRow) (ap (λ (t : List (Cell × ℕ)). put below c v (change (joined all26 c) t)) (ok .sound .exact) ∙ sym (masked-add all26 (occupied o) c));
+              ∙ put-each (λ d n. n ∷ []) below c v (change (ruleOf kind true c) (o .masks))
+              ∙ ap (each idRow) (ap (λ (t : List (Cell × ℕ)). put below c v (change (ruleOf kind true c) t)) (ok .sound .exact) ∙ sym (masks-joined kind (occupied o) c));
         }
 
     -- The table of masks after the row of c went out.
@@ -111,14 +110,14 @@ module _ (o : Occupancy) (ok : Placed o) where
 
     -- The table of masks after c closes.
     pub close-masks : hasRoom 1 c ≡ true → (gone after : List ℕ) (len k : ℕ) → (k, gone) ≡ stored4 len (dropKey same c (table4 cellWidth m cells))
-        → TableIs cell cellWidth k after (change (told false (neighbourOf c) 26) (table4 cellWidth k gone))
-        → TableIs cell cellWidth k after (each idRow (closeCell touch26 c o .masks))
+        → TableIs cell cellWidth k after (change (told (ofKind kind) false (neighbourOf c) 26) (table4 cellWidth k gone))
+        → TableIs cell cellWidth k after (each idRow (closeCell (touchAt kind) c o .masks))
     close-masks room gone after len k q y =
         record {
           table = y .table;
-          is = y .is ∙ ap (change (told false (neighbourOf c) 26)) (drop-masks gone len k q .is)
-              ∙ masks-told false c room (dropKey same c (o .masks))
-              ∙ ap (each idRow) (ap (λ (t : List (Cell × ℕ)). change (left all26 c) (dropKey same c t)) (ok .sound .exact) ∙ sym (masked-without all26 (occupied o) c));
+          is = y .is ∙ ap (change (told (ofKind kind) false (neighbourOf c) 26)) (drop-masks gone len k q .is)
+              ∙ masks-told kind false c room (dropKey same c (o .masks))
+              ∙ ap (each idRow) (ap (λ (t : List (Cell × ℕ)). change (ruleOf kind false c) (dropKey same c t)) (ok .sound .exact) ∙ sym (masks-left kind (occupied o) c));
         }
 
 -- Both net lists after a cell leaves the one or joins the other.

@@ -16,7 +16,7 @@ note-requires : tie.Need-note-requires
 note-requires c κs = search needs
 
 returns : tie.Need-returns
-returns c = let s = c .before .before .before .before in c .note .ensures ∙ noted-mask (s .args .c) (sym (c .before .before .has-room .ensures) ∙ c .before .if1 .taken) (keys (table4 cellWidth (s .args .m) (s .args .cells .now)))
+returns c = let s = c .before .before .before .before in c .note .ensures ∙ noted-mask (s .args .kind) (s .args .c) (sym (c .before .before .has-room .ensures) ∙ c .before .if1 .taken) (keys (table4 cellWidth (s .args .m) (s .args .cells .now)))
 
 scanned-requires : tie.Need-scanned-requires
 scanned-requires c κs = let s = c .before .before .before in table-facts cell cellWidth (s .args .m) (s .args .cells .now) (s .pre) .fits

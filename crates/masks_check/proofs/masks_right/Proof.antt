@@ -15,10 +15,10 @@ use Rattle.masks_check.proofs.masks_right.Statement.{statement}
 use Rattle.masks_check.proofs.masks_right.Tie as tie
 
 abbrev Inv-loop : tie.InvT-loop
-Inv-loop cells m i₀ i = (cellWidth * m ≤ length cells) × (all (rowRight (keys (table4 cellWidth m cells))) (cellsIn m cells) ≡ all (rowRight (keys (table4 cellWidth m cells))) (drop i (cellsIn m cells)))
+Inv-loop kind cells m i₀ i = (cellWidth * m ≤ length cells) × (all (rowRight kind (keys (table4 cellWidth m cells))) (cellsIn m cells) ≡ all (rowRight kind (keys (table4 cellWidth m cells))) (drop i (cellsIn m cells)))
 
 abbrev μ-loop : tie.MeasureT-loop
-μ-loop cells m i₀ i = m - i
+μ-loop kind cells m i₀ i = m - i
 
 loop-holds : tie.Need-loop-holds Inv-loop μ-loop
 loop-holds c = (table-facts cell cellWidth (c .before .args .m) (c .before .args .cells .now) (c .before .pre) .fits, refl)
@@ -45,7 +45,7 @@ mask-of-requires : tie.Need-mask-of-requires Inv-loop μ-loop
 mask-of-requires c κs = c .before .before .before .before .before .pre
 
 returns : tie.Need-returns Inv-loop μ-loop
-returns c = let s = c .before .before .before .before .before .before .before in let l = c .before .before .before .before .before .loop in sym (l .inv .1 ∙ all-no (mask-lines (s .args .m) (s .args .cells .now)) (rowRight (keys (table4 cellWidth (s .args .m) (s .args .cells .now)))) (l .i) (c .before .before .before .before .loop-test .taken) (row-no (keys (table4 cellWidth (s .args .m) (s .args .cells .now))) (c .before .before .before .cell-at .result) (cellAt (s .args .cells .now) (cellWidth * l .i)) (getD (s .args .cells .now) (cellWidth * l .i + 4) 0) (c .before .mask-of .result) (c .before .before .before .cell-at .ensures) (c .before .mask-of .ensures) (c .if1 .taken)))
+returns c = let s = c .before .before .before .before .before .before .before in let l = c .before .before .before .before .before .loop in sym (l .inv .1 ∙ all-no (mask-lines (s .args .m) (s .args .cells .now)) (rowRight (s .args .kind) (keys (table4 cellWidth (s .args .m) (s .args .cells .now)))) (l .i) (c .before .before .before .before .loop-test .taken) (row-no (s .args .kind) (keys (table4 cellWidth (s .args .m) (s .args .cells .now))) (c .before .before .before .cell-at .result) (cellAt (s .args .cells .now) (cellWidth * l .i)) (getD (s .args .cells .now) (cellWidth * l .i + 4) 0) (c .before .mask-of .result) (c .before .before .before .cell-at .ensures) (c .before .mask-of .ensures) (c .if1 .taken)))
 
 add-i : tie.Need-add-i Inv-loop μ-loop
 add-i c = search needs
@@ -54,10 +54,10 @@ loop-less : tie.Need-loop-less Inv-loop μ-loop
 loop-less c = search needs
 
 loop-again : tie.Need-loop-again Inv-loop μ-loop
-loop-again c = let s = c .before .before .before .before .before .before .before in let l = c .before .before .before .before .before .loop in (l .inv .0, l .inv .1 ∙ all-next (mask-lines (s .args .m) (s .args .cells .now)) (rowRight (keys (table4 cellWidth (s .args .m) (s .args .cells .now)))) (l .i) (c .before .before .before .before .loop-test .taken) (row-yes (keys (table4 cellWidth (s .args .m) (s .args .cells .now))) (c .before .before .before .cell-at .result) (cellAt (s .args .cells .now) (cellWidth * l .i)) (getD (s .args .cells .now) (cellWidth * l .i + 4) 0) (c .before .mask-of .result) (c .before .before .before .cell-at .ensures) (c .before .mask-of .ensures) (c .if1 .left)))
+loop-again c = let s = c .before .before .before .before .before .before .before in let l = c .before .before .before .before .before .loop in (l .inv .0, l .inv .1 ∙ all-next (mask-lines (s .args .m) (s .args .cells .now)) (rowRight (s .args .kind) (keys (table4 cellWidth (s .args .m) (s .args .cells .now)))) (l .i) (c .before .before .before .before .loop-test .taken) (row-yes (s .args .kind) (keys (table4 cellWidth (s .args .m) (s .args .cells .now))) (c .before .before .before .cell-at .result) (cellAt (s .args .cells .now) (cellWidth * l .i)) (getD (s .args .cells .now) (cellWidth * l .i + 4) 0) (c .before .mask-of .result) (c .before .before .before .cell-at .ensures) (c .before .mask-of .ensures) (c .if1 .left)))
 
 returns-2 : tie.Need-returns-2 Inv-loop μ-loop
-returns-2 c = let s = c .before .before .before in let l = c .before .loop in sym (l .inv .1 ∙ all-end (mask-lines (s .args .m) (s .args .cells .now)) (rowRight (keys (table4 cellWidth (s .args .m) (s .args .cells .now)))) (l .i) (c .loop-test .left))
+returns-2 c = let s = c .before .before .before in let l = c .before .loop in sym (l .inv .1 ∙ all-end (mask-lines (s .args .m) (s .args .cells .now)) (rowRight (s .args .kind) (keys (table4 cellWidth (s .args .m) (s .args .cells .now)))) (l .i) (c .loop-test .left))
 
 pub masks-right-spec : {M : Type 1} → statement M
 masks-right-spec =

@@ -1,24 +1,23 @@
 -- Frames: whole metres, and the seven edges.
 use mathlib.Core.Path.{_≡_, refl, sym, ap, _∙_, subst}
-use Prim.Native.Nat.{ℕ, suc, _+_, _-_, _*_, _/_, _%_, _^_, _≤_, _<_}
-use native.Mathlib.Nat.{mul-pos, lt-irrefl, div-add-mod', mul-mod-left, mul-le-mul-right, le-of-mul-le-mul-right}
+use Prim.Native.Nat.{ℕ, _+_, _*_, _/_, _%_, _^_, _≤_, _<_}
+use native.Mathlib.Nat.{mul-pos, lt-irrefl, div-add-mod'}
 use native.Mathlib.Omega.{arith}
-use mathlib.Core.Bool.{Bool, true, false, not, _&&_, _||_, and-true, true≢false}
-use lib.Dec.{T, ltb, leb, eqb, nltb→le, eqb→eq, lit≤, le→leb, leb→le}
+use mathlib.Core.Bool.{Bool, true, false, not, _&&_, _||_}
+use lib.Dec.{T, ltb, eqb, nltb→le, eqb→eq, lit≤}
 use lib.Arith.{le→nltb}
 use lib.Pow.{pow-pos}
-use lib.IntN.{ℤ, pos, negsuc, natAbs, _*ℤ_}
+use lib.IntN.{pos, natAbs}
 use lib.Ieee.{Float, nan, inf, fin, binary64, up, down, fits, eq, lt, ofInt, round, toUnsigned, inUnsigned}
 use lib.Ieee.Fits.{and-l, and-r, down-pos, eq→eqb}
-use lib.Ieee.Exact.{HasValue}
-use lib.Ieee.Back.{whole-unique, unsigned-back, round-whole}
+use lib.Ieee.Back.{whole-unique, unsigned-back}
 use lib.Ieee.Scale.{finite}
 use Rattle.exact.specs.Units.{metre, exact}
 use Rattle.metres.specs.Known.{Edge, EdgeIs}
 use Rattle.metres.specs.Place.{isMetres, near, edgeOk, originOk, errorOk}
-use Rattle.exact.specs.Laws.Units.{metre-pos, same-test, natAbs-signed, eq-same, left-over, right-over}
-use Rattle.exact.specs.Laws.Tests.{zeroF, true-T, T-true}
-use Rattle.exact.specs.Laws.Whole.{in-float, lt-zero, whole-known, whole-exact}
+use Rattle.exact.specs.Laws.Units.{same-test}
+use Rattle.exact.specs.Laws.Tests.{zeroF, true-T}
+use Rattle.exact.specs.Laws.Whole.{in-float, lt-zero, whole-exact}
 
 -- ---- whole metres
 nothing-left : (w r n : ℕ) → w + r ≡ n → n ≤ w → r ≡ 0

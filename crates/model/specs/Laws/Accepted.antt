@@ -9,7 +9,7 @@ use lib.ListN.{length}
 use Rattle.model.specs.Lists.{all, run}
 use Rattle.model.specs.Cells.{Cell, cellInRange}
 use Rattle.model.specs.Occupancy.{Occupancy, Event, Batch, events, occupied, startBatch, play}
-use Rattle.model.specs.Update.{State, mostEvents, mostEntities, mostCells, lastNext, tooManyEvents, outOfRange, fewIds, tooManyEntities, tooManyCells, brokenBy, refusal, accepted, update}
+use Rattle.model.specs.Update.{State, mostEvents, mostEntities, mostCells, lastNext, tooManyEvents, outOfRange, fewIds, tooManyEntities, tooManyCells, brokenBy, refusalBy, acceptedBy, updateBy}
 use Rattle.model.specs.Laws.Tests.{T-true, T-false}
 
 -- Where a test with a number comes out at 0, the test fails and what follows it comes out at 0.
@@ -28,8 +28,8 @@ twice : (b : Bool) → T (not (not b)) → T b
 twice true t = tt
 twice false t = t
 
-pub accepts : (touch : Cell → Cell → Bool) (s : State) (b : Batch) → refusal touch s b ≡ 0 → Accepts touch s b
-unfolding refusal
+pub accepts : (touch : Cell → Cell → Bool) (s : State) (b : Batch) → refusalBy touch s b ≡ 0 → Accepts touch s b
+unfolding refusalBy
 accepts touch s b e =
     let r3 = passed (tooManyEvents b) 3 (cond (outOfRange b) 4 (cond (fewIds (s .groups .next)) 5 (brokenBy touch (startBatch (s .occupancy)) (events b)))) (λ z. omega arith) e in
     let r4 = passed (outOfRange b) 4 (cond (fewIds (s .groups .next)) 5 (brokenBy touch (startBatch (s .occupancy)) (events b))) (λ z. omega arith) (r3 .1) in
@@ -43,14 +43,14 @@ accepts touch s b e =
 
 module _ (touch : Cell → Cell → Bool) where
   -- An update with the number 0 was not refused and leaves the accepted state.
-  pub update-accepted : (s : State) (b : Batch) → update touch s b .0 ≡ 0 → (refusal touch s b ≡ 0) × (update touch s b .1 ≡ accepted touch s b)
-  unfolding update
-  update-accepted s b e = go (refusal touch s b) refl e
+  pub update-accepted : (s : State) (b : Batch) → updateBy touch s b .0 ≡ 0 → (refusalBy touch s b ≡ 0) × (updateBy touch s b .1 ≡ acceptedBy touch s b)
+  unfolding updateBy
+  update-accepted s b e = go (refusalBy touch s b) refl e
     where
-      go : (n : ℕ) → refusal touch s b ≡ n → (cond {A = ℕ × State} (eqb n 0) (0, accepted touch s b) (n, s)) .0 ≡ 0 → (n ≡ 0) × ((cond {A = ℕ × State} (eqb n 0) (0, accepted touch s b) (n, s)) .1 ≡ accepted touch s b)
+      go : (n : ℕ) → refusalBy touch s b ≡ n → (cond {A = ℕ × State} (eqb n 0) (0, acceptedBy touch s b) (n, s)) .0 ≡ 0 → (n ≡ 0) × ((cond {A = ℕ × State} (eqb n 0) (0, acceptedBy touch s b) (n, s)) .1 ≡ acceptedBy touch s b)
       go n q e = by (eqb n 0) refl e
         where
-          by : (t : Bool) → eqb n 0 ≡ t → (cond {A = ℕ × State} t (0, accepted touch s b) (n, s)) .0 ≡ 0 → (n ≡ 0) × ((cond {A = ℕ × State} t (0, accepted touch s b) (n, s)) .1 ≡ accepted touch s b)
+          by : (t : Bool) → eqb n 0 ≡ t → (cond {A = ℕ × State} t (0, acceptedBy touch s b) (n, s)) .0 ≡ 0 → (n ≡ 0) × ((cond {A = ℕ × State} t (0, acceptedBy touch s b) (n, s)) .1 ≡ acceptedBy touch s b)
           by true f h = (lib.Dec.eqb→eq n 0 (T-true f), refl)
           by false f h = absurd (T-not (eqb n 0) (T-false f) (subst (λ k. T (eqb k 0)) (sym h) tt))
 

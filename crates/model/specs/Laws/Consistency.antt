@@ -12,7 +12,7 @@ use Rattle.model.specs.Occupancy.{Occupancy, occupied}
 use Rattle.model.specs.Paths.{stop, step}
 use Rattle.model.specs.Groups.{Ids, Groups, Group, Corner, records}
 use Rattle.model.specs.Update.{State, mostEntities, mostCells}
-use Rattle.model.specs.Consistent.{withinNumber, standing, cellsExact, masksExact, idsShared, sameCorner, sameRecord, recordsExact, idsBelowNext, coordinatesInRange, netsInOrder, consistent}
+use Rattle.model.specs.Consistent.{withinNumber, standing, cellsExact, masksExact, idsShared, sameCorner, sameRecord, recordsExact, idsBelowNext, coordinatesInRange, netsInOrder, consistentBy}
 use Rattle.model.specs.Laws.Tests.{and-fst, and-snd, and-both}
 use Rattle.model.specs.Laws.Orders.{cells}
 use Rattle.model.specs.Laws.Members.{all-in, all-out, has-of, of-has, hasnt-of, of-hasnt, equal-in, equal-out, each-out}
@@ -173,7 +173,7 @@ module _ (touch : Cell → Cell → Bool) where
     out-m = all (λ c. not (has same (occupied o) c)) (o .newlyEmptied)
 
     -- A consistent state is Ok.
-    pub ok-out : T (consistent touch s) → Ok touch s
+    pub ok-out : T (consistentBy touch s) → Ok touch s
     ok-out t =
         let p1 : T (withinNumber s) × T from2 = both (withinNumber s) from2 t in
         let p2 : T (cellsExact s) × T from3 = both (cellsExact s) from3 (p1 .1) in
@@ -223,7 +223,7 @@ module _ (touch : Cell → Cell → Bool) where
         subst (λ (q : Cell × ℕ). T (eqb (q .1) (maskOf touch (occupied o) (q .0)))) (sym (r .2)) (eqb-refl (maskOf touch (occupied o) (r .0)))
 
     -- A state that is Ok is consistent.
-    pub ok-in : Ok touch s → T (consistent touch s)
+    pub ok-in : Ok touch s → T (consistentBy touch s)
     ok-in k =
         and-both (withinNumber s) from2
         (and-both ents-asc (ents-few && cells-few) (isAscending-in (k .sound .asc))

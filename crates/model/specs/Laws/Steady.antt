@@ -9,8 +9,7 @@ use Rattle.model.specs.Lists.{keys}
 use Rattle.model.specs.Cells.{Cell, same, below}
 use Rattle.model.specs.Occupancy.{Occupancy, Batch, occupied, playBatch}
 use Rattle.model.specs.Groups.{records}
-use Rattle.model.specs.Update.{State, fresh, accepted}
-use Rattle.model.specs.Runs.{Reached, start, next}
+use Rattle.model.specs.Update.{State, fresh, acceptedBy}
 use Rattle.model.specs.Laws.Orders.{cells}
 use Rattle.model.specs.Laws.Members.{mem-or}
 use Rattle.model.specs.Laws.Sorted.{Asc, keep-asc, asc-equal}
@@ -20,7 +19,6 @@ use Rattle.model.specs.Laws.Minus.{minus-in, minus-out}
 use Rattle.model.specs.Laws.Occupied.{Sound, nothing-sound, batch-sound, occupied-asc}
 use Rattle.model.specs.Laws.Net.{Net, batch-net}
 use Rattle.model.specs.Laws.Fine.{Fine}
-use Rattle.model.specs.Laws.Accepted.{update-accepted}
 use Rattle.model.specs.Laws.Keys.{regroup-asc}
 use Rattle.model.specs.Laws.Regroup.{regroup-fine, regroup-in, regroup-out}
 
@@ -32,8 +30,8 @@ pub record Steady (touch : Cell → Cell → Bool) (s : State) : Type 0 where
 
 module _ (touch : Cell → Cell → Bool) where
   -- A fresh state.
-  pub fresh-steady : (first : ℕ) → Steady touch (fresh first)
-  fresh-steady first =
+  pub fresh-steady : (first kind : ℕ) → Steady touch (fresh first kind)
+  fresh-steady first kind =
       record {
         sound = nothing-sound touch;
         fine = record { fair = λ q m. absurd (mem-nil m); under = λ p. absurd (at-nil p); edge = λ p q t. absurd (at-nil p); joined = λ p q n. absurd (at-nil p) };
@@ -64,8 +62,8 @@ module _ (touch : Cell → Cell → Bool) where
         free-key cells (s .groups .ids) (λ k. minus-out cells (occupied after) (occupied (s .occupancy)) (subst (λ l. Mem c l) (net .opened) m) .1 (subst (λ l. Mem c l) (ok .idCells) k))
 
     -- After an accepted batch.
-    pub accepted-steady : Steady touch (accepted touch s b)
-    unfolding accepted
+    pub accepted-steady : Steady touch (acceptedBy touch s b)
+    unfolding acceptedBy
     accepted-steady =
         record {
           sound = sound′;

@@ -11,7 +11,7 @@ use Rattle.model.specs.Occupancy.{occupied}
 use Rattle.model.specs.Paths.{Joined, stop, step}
 use Rattle.model.specs.Shortest.{shownPath, IsPath, end, on}
 use Rattle.model.specs.Update.{State}
-use Rattle.model.specs.Runs.{Reached, Alike, onGrid, SameOn}
+use Rattle.model.specs.Runs.{ReachedBy, AlikeBy, onGrid, SameOn}
 use Rattle.model.specs.Laws.Members.{keep-in, keep-out}
 use Rattle.model.specs.Laws.Sorted.{Asc, keep-asc}
 use Rattle.model.specs.Laws.Tables.{keys-only}
@@ -67,13 +67,13 @@ module _ (touch : Cell → Cell → Bool) (laws : Touching touch) (grid : ℕ) {
 -- Runs that are alike on a grid.
 module _ (touch : Cell → Cell → Bool) (laws : Touching touch) (grid : ℕ) where
   -- Both states are led to by a history of accepted batches.
-  both-reached : {s t : State} → Alike touch grid s t → Reached touch s × Reached touch t
-  both-reached (Alike.start first first′) = (Reached.start first, Reached.start first′)
-  both-reached (Alike.next b d r e f h) = let k = both-reached r in (Reached.next b (k .0) e, Reached.next d (k .1) f)
+  both-reached : {s t : State} → AlikeBy touch grid s t → ReachedBy touch s × ReachedBy touch t
+  both-reached (AlikeBy.start first first′ kind kind′) = (ReachedBy.start first kind, ReachedBy.start first′ kind′)
+  both-reached (AlikeBy.next b d r e f h) = let k = both-reached r in (ReachedBy.next b (k .0) e, ReachedBy.next d (k .1) f)
 
-  reached-asc : {s : State} → Reached touch s → Asc below (occupied (s .occupancy))
+  reached-asc : {s : State} → ReachedBy touch s → Asc below (occupied (s .occupancy))
   reached-asc {s} r = occupied-asc touch (s .occupancy) (ok-out touch (laws .flip) s (consistent-reached touch laws r) .sound)
 
   -- Every path of the grid is the same in both.
-  pub path-isolated : {s t : State} → Alike touch grid s t → (a b : Cell) → T (onGrid grid a) → shownPath touch (occupied (s .occupancy)) a b ≡ shownPath touch (occupied (t .occupancy)) a b
+  pub path-isolated : {s t : State} → AlikeBy touch grid s t → (a b : Cell) → T (onGrid grid a) → shownPath touch (occupied (s .occupancy)) a b ≡ shownPath touch (occupied (t .occupancy)) a b
   path-isolated r = path-same touch laws grid (isolation touch laws grid r) (reached-asc (both-reached r .0)) (reached-asc (both-reached r .1))

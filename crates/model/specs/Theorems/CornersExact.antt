@@ -14,7 +14,7 @@ use Rattle.model.specs.Paths.{Path, stop, step}
 use Rattle.model.specs.Groups.{Group, Corner, members, groupOf, cornerAt, lower, higher}
 use Rattle.model.specs.Update.{State}
 use Rattle.model.specs.Questions.{idOf, idList, groupBy}
-use Rattle.model.specs.Consistent.{consistent}
+use Rattle.model.specs.Consistent.{consistentBy}
 use Rattle.model.specs.Laws.Orders.{cells}
 use Rattle.model.specs.Laws.Tables.{At, at-mem, asc-fair}
 use Rattle.model.specs.Laws.Values.{value-in}
@@ -125,7 +125,7 @@ module _ (touch : Cell → Cell → Bool) (laws : Touching touch) where
   one-grid (stop d e) = ap (λ (c : Cell). c .grid) e
   one-grid (step {a} {c} d t w) = laws .one-grid a c t ∙ one-grid w
 
-  module _ (s : State) (t : T (consistent touch s)) where
+  module _ (s : State) (t : T (consistentBy touch s)) where
     ok : Ok touch s
     ok = ok-out touch (laws .flip) s t
 

@@ -9,12 +9,12 @@ use lib.Dec.{T, eqb, eqb→eq, ltb}
 use lib.ListN.{length}
 use Rattle.model.specs.Lists.{has, gather, each, ascending, run, keys, values, get}
 use Rattle.model.specs.Cells.{Cell, same, touch26}
-use Rattle.model.specs.Occupancy.{Event, remove, moveTo, events, startBatch}
+use Rattle.model.specs.Occupancy.{Event, Batch, remove, moveTo, events, startBatch}
 use Rattle.model.specs.Groups.{Ids, Group, members, standingAt, groupOf, recordOf, records}
-use Rattle.model.specs.Update.{State, accepted}
+use Rattle.model.specs.Update.{State, acceptedBy, updateBy}
 use Rattle.model.specs.Questions.{idOf, groupBy}
-use Rattle.model.specs.Consistent.{consistent}
-use Rattle.model.specs.Runs.{Reached, start, next}
+use Rattle.model.specs.Consistent.{consistentBy}
+use Rattle.model.specs.Runs.{ReachedBy, start, next}
 use Rattle.model.specs.Counted.{total, entitiesCounted, placed, placedBy}
 use Rattle.model.specs.Laws.Tests.{same-test, eqb-of}
 use Rattle.model.specs.Laws.Orders.{numbers, cells}
@@ -49,7 +49,7 @@ module _ (entities : List (ℕ × Cell)) where
       ∙ total-append (each numberOf (recordOf entities g (members ids g))) (each numberOf (gather (λ g. recordOf entities g (members ids g)) l))
       ∙ ap₂ (λ a b. a + b) (counted-one g (members ids g)) (counted-all ids l)
 
-module _ (touch : Cell → Cell → Bool) (laws : Touching touch) (s : State) (t : T (consistent touch s)) where
+module _ (touch : Cell → Cell → Bool) (laws : Touching touch) (s : State) (t : T (consistentBy touch s)) where
   ok : Ok touch s
   ok = ok-out touch (laws .flip) s t
 
@@ -113,19 +113,23 @@ placed-all t [] = refl
 placed-all t (ev ∷ es) = placed-all (stands t ev) es ∙ ap (λ l. run placed l es) (placed-keys t ev)
 
 module _ (touch : Cell → Cell → Bool) (laws : Touching touch) where
-  -- The entities of a state are those that its history has placed and not since removed.
-  pub entities-placed : {s : State} (r : Reached touch s) → keys (s .occupancy .entities) ≡ placedBy touch r
-  unfolding accepted
-  entities-placed (start first) = refl
-  entities-placed (next {s} b r e) =
+  -- The entities after an accepted batch are those placed and not since removed after its events.
+  pub entities-after : (s : State) → T (consistentBy touch s) → (b : Batch) → updateBy touch s b .0 ≡ 0 → keys (updateBy touch s b .1 .occupancy .entities) ≡ run placed (keys (s .occupancy .entities)) (events b)
+  unfolding acceptedBy
+  entities-after s t b e =
       ap (λ (u : State). keys (u .occupancy .entities)) (update-accepted touch s b e .1)
-      ∙ ap keys (plays-stands touch (startBatch (s .occupancy)) (events b) (ok-out touch (laws .flip) s (consistent-reached touch laws r) .sound .asc))
-      ∙ placed-all (s .occupancy .entities) (events b) ∙ ap (λ l. run placed l (events b)) (entities-placed r)
+      ∙ ap keys (plays-stands touch (startBatch (s .occupancy)) (events b) (ok-out touch (laws .flip) s t .sound .asc))
+      ∙ placed-all (s .occupancy .entities) (events b)
+
+  -- The entities of a state are those that its history has placed and not since removed.
+  pub entities-placed : {s : State} (r : ReachedBy touch s) → keys (s .occupancy .entities) ≡ placedBy touch r
+  entities-placed (start first kind) = refl
+  entities-placed (next {s} b r e) = entities-after s (consistent-reached touch laws r) b e ∙ ap (λ l. run placed l (events b)) (entities-placed r)
 
   -- After every history the sum over all groups is the number of entities placed and not since removed.
-  pub entities-history : {s : State} (r : Reached touch s) → entitiesCounted s ≡ length (placedBy touch r)
+  pub entities-history : {s : State} (r : ReachedBy touch s) → entitiesCounted s ≡ length (placedBy touch r)
   entities-history {s} r = entities-sum touch laws s (consistent-reached touch laws r) ∙ sym (keys-length (s .occupancy .entities)) ∙ ap length (entities-placed r)
 
 -- For all 26.
-pub entities-26 : {s : State} (r : Reached touch26 s) → entitiesCounted s ≡ length (placedBy touch26 r)
+pub entities-26 : {s : State} (r : ReachedBy touch26 s) → entitiesCounted s ≡ length (placedBy touch26 r)
 entities-26 = entities-history touch26 touching-26

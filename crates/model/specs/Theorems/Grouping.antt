@@ -11,8 +11,8 @@ use Rattle.model.specs.Occupancy.{occupied}
 use Rattle.model.specs.Paths.{Joined}
 use Rattle.model.specs.Update.{State}
 use Rattle.model.specs.Questions.{idOf}
-use Rattle.model.specs.Consistent.{consistent}
-use Rattle.model.specs.Runs.{Reached}
+use Rattle.model.specs.Consistent.{consistentBy}
+use Rattle.model.specs.Runs.{ReachedBy}
 use Rattle.model.specs.Laws.Orders.{cells}
 use Rattle.model.specs.Laws.Tables.{at-mem, at-key, key-at}
 use Rattle.model.specs.Laws.Touching.{Touching, touching-by}
@@ -30,7 +30,7 @@ pub record Grouped (touch : Cell → Cell → Bool) (s : State) : Type 0 where
 
 module _ (touch : Cell → Cell → Bool) (laws : Touching touch) where
   -- Every consistent state is grouped so.
-  pub grouping-consistent : (s : State) → T (consistent touch s) → Grouped touch s
+  pub grouping-consistent : (s : State) → T (consistentBy touch s) → Grouped touch s
   grouping-consistent s t =
       record {
         has-id = λ a m. let d = key-at cells ids (subst (λ l. Mem a l) (sym (ok .id-cells)) m) in (d .0, d .1 .is);
@@ -45,13 +45,13 @@ module _ (touch : Cell → Cell → Bool) (laws : Touching touch) where
       ids = s .groups .ids
 
   -- After every history of accepted batches from a fresh state.
-  pub grouping : {s : State} → Reached touch s → Grouped touch s
+  pub grouping : {s : State} → ReachedBy touch s → Grouped touch s
   grouping {s} r = grouping-consistent s (consistent-reached touch laws r)
 
 -- For every set of offsets that holds the opposite of each of its members.
-pub grouping-by : (offsets : Offsets) → T (holdsOpposites offsets) → {s : State} → Reached (touchBy offsets) s → Grouped (touchBy offsets) s
+pub grouping-by : (offsets : Offsets) → T (holdsOpposites offsets) → {s : State} → ReachedBy (touchBy offsets) s → Grouped (touchBy offsets) s
 grouping-by offsets ok = grouping (touchBy offsets) (touching-by offsets ok)
 
 -- For all 26.
-pub grouping-26 : {s : State} → Reached (touchBy all26) s → Grouped (touchBy all26) s
+pub grouping-26 : {s : State} → ReachedBy (touchBy all26) s → Grouped (touchBy all26) s
 grouping-26 = grouping-by all26 tt

@@ -12,10 +12,10 @@ use Rattle.model.specs.Masks.{masked}
 use Rattle.model.specs.Flood.{Depth, withinDepth, floodCells, floodWithin}
 use Rattle.model.specs.Paths.{Path}
 use Rattle.model.specs.Groups.{Group, members}
-use Rattle.model.specs.Update.{State, accepted, update}
+use Rattle.model.specs.Update.{State, acceptedBy, updateBy}
 use Rattle.model.specs.Questions.{idOf, groupBy}
-use Rattle.model.specs.Consistent.{consistent}
-use Rattle.model.specs.Runs.{Reached}
+use Rattle.model.specs.Consistent.{consistentBy}
+use Rattle.model.specs.Runs.{ReachedBy}
 use Rattle.model.specs.Laws.Touching.{Touching, touching-26}
 use Rattle.model.specs.Laws.Accepted.{update-accepted}
 use Rattle.model.specs.Laws.Consistency.{Ok, ok-out}
@@ -25,16 +25,16 @@ use Rattle.model.specs.Theorems.DepthExact.{depth-exact}
 use Rattle.model.specs.Theorems.CornersExact.{Shows, corners-exact}
 use Rattle.model.specs.Theorems.StaysConsistent.{consistent-reached}
 
-module _ (touch : Cell → Cell → Bool) (laws : Touching touch) {s : State} (r : Reached touch s) where
-  reached-consistent : T (consistent touch s)
+module _ (touch : Cell → Cell → Bool) (laws : Touching touch) {s : State} (r : ReachedBy touch s) where
+  reached-consistent : T (consistentBy touch s)
   reached-consistent = consistent-reached touch laws r
 
   reached-ok : Ok touch s
   reached-ok = ok-out touch (laws .flip) s reached-consistent
 
   -- The net lists of the next accepted batch are the difference that it makes.
-  pub net-reached : (b : Batch) → update touch s b .0 ≡ 0 → Since (s .occupancy) (update touch s b .1 .occupancy)
-  unfolding accepted
+  pub net-reached : (b : Batch) → updateBy touch s b .0 ≡ 0 → Since (s .occupancy) (updateBy touch s b .1 .occupancy)
+  unfolding acceptedBy
   net-reached b e =
       subst (λ (u : State). Since (s .occupancy) (u .occupancy)) (sym (update-accepted touch s b e .1))
       (net-exact touch b (s .occupancy) (reached-ok .sound))
@@ -56,8 +56,8 @@ module _ (touch : Cell → Cell → Bool) (laws : Touching touch) {s : State} (r
   corners-reached = corners-exact touch laws s reached-consistent
 
 -- For all 26.
-module _ {s : State} (r : Reached touch26 s) where
-  pub net-26 : (b : Batch) → update touch26 s b .0 ≡ 0 → Since (s .occupancy) (update touch26 s b .1 .occupancy)
+module _ {s : State} (r : ReachedBy touch26 s) where
+  pub net-26 : (b : Batch) → updateBy touch26 s b .0 ≡ 0 → Since (s .occupancy) (updateBy touch26 s b .1 .occupancy)
   net-26 = net-reached touch26 touching-26 r
 
   pub masks-26 : s .occupancy .masks ≡ masked touch26 (occupied (s .occupancy))

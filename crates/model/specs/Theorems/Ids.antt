@@ -10,7 +10,7 @@ use Rattle.model.specs.Lists.{run}
 use Rattle.model.specs.Cells.{Cell, same, below}
 use Rattle.model.specs.Occupancy.{Batch, playBatch}
 use Rattle.model.specs.Groups.{Groups, rule1, regroup}
-use Rattle.model.specs.Update.{State, refusal, accepted, update}
+use Rattle.model.specs.Update.{State, refusalBy, acceptedBy, updateBy}
 use Rattle.model.specs.Laws.Sorted.{Asc}
 use Rattle.model.specs.Laws.Tables.{At, Free, Fair}
 use Rattle.model.specs.Laws.Fine.{Fine}
@@ -23,19 +23,19 @@ module _ (touch : Cell → Cell → Bool) where
   -- The state t is reached from the state s by accepted batches.
   pub data Later (s : State) : State → Type 0 where
     now : Later s s
-    after : {t : State} (b : Batch) → Later s t → Later s (accepted touch t b)
+    after : {t : State} (b : Batch) → Later s t → Later s (acceptedBy touch t b)
 
   -- An update, accepted or refused, leads to a later state.
-  pub update-later : {s t : State} (b : Batch) → Later s t → Later s (update touch t b .1)
-  unfolding update
-  update-later {s} {t} b l = go (eqb (refusal touch t b) 0)
+  pub update-later : {s t : State} (b : Batch) → Later s t → Later s (updateBy touch t b .1)
+  unfolding updateBy
+  update-later {s} {t} b l = go (eqb (refusalBy touch t b) 0)
     where
-      go : (c : Bool) → Later s ((cond {A = ℕ × State} c (0, accepted touch t b) (refusal touch t b, t)) .1)
+      go : (c : Bool) → Later s ((cond {A = ℕ × State} c (0, acceptedBy touch t b) (refusalBy touch t b, t)) .1)
       go true = after b l
       go false = l
 
   later-onward : {s t : State} → Later s t → Onward (s .groups) (t .groups)
-  unfolding accepted
+  unfolding acceptedBy
   later-onward {s} now = onward-self (s .groups)
   later-onward (after {t} b l) =
       onward-join (later-onward l) (regroup-onward touch (playBatch touch b (t .occupancy) .newlyOccupied) (playBatch touch b (t .occupancy) .newlyEmptied) (t .groups))

@@ -15,9 +15,9 @@ use Rattle.model.specs.Cells.{Cell, same, Offsets, all26, holdsOpposites
 use Rattle.model.specs.Occupancy.{Occupancy, Batch, occupied, playBatch}
 use Rattle.model.specs.Flood.{flood}
 use Rattle.model.specs.Groups.{Ids, members, standingAt, cornerAt, lower, higher}
-use Rattle.model.specs.Update.{State, accepted, update}
-use Rattle.model.specs.Questions.{whereIs, entitiesIn, idOf, nearby, onesOf, neighbourCount, cube}
-use Rattle.model.specs.Runs.{onGrid, passagesOn, Alike, start, next, renamed, SameOn}
+use Rattle.model.specs.Update.{State, acceptedBy, updateBy}
+use Rattle.model.specs.Questions.{whereIs, entitiesIn, idOf, nearbyBy, onesOf, neighbourCount, cube}
+use Rattle.model.specs.Runs.{onGrid, passagesOn, AlikeBy, start, next, renamed, SameOn}
 use Rattle.model.specs.Laws.Orders.{numbers, cells}
 use Rattle.model.specs.Laws.Members.{keep-in, keep-out, keep-ext, each-in, key-out, of-has}
 use Rattle.model.specs.Laws.Tables.{At, at-mem, asc-mem-at, get-only-yes, keys-only}
@@ -52,8 +52,8 @@ shown-on grid l m (c ∷ cs) on e =
 
 module _ (touch : Cell → Cell → Bool) (laws : Touching touch) (grid : ℕ) where
   -- Two accepted batches that agree on the grid.
-  accepted-agree : (s t : State) (b d : Batch) → Agree touch grid s t → passagesOn touch grid s b ≡ passagesOn touch grid t d → Agree touch grid (accepted touch s b) (accepted touch t d)
-  unfolding accepted
+  accepted-agree : (s t : State) (b d : Batch) → Agree touch grid s t → passagesOn touch grid s b ≡ passagesOn touch grid t d → Agree touch grid (acceptedBy touch s b) (acceptedBy touch t d)
+  unfolding acceptedBy
   accepted-agree s t b d a e =
       record {
         left = accepted-steady touch laws s (a .left) b;
@@ -74,17 +74,17 @@ module _ (touch : Cell → Cell → Bool) (laws : Touching touch) (grid : ℕ) w
       views′ = batches-agree touch laws grid b d (s .occupancy) (t .occupancy) (a .left .sound) (a .right .sound) (a .views) e
 
   -- Runs that are alike agree.
-  agree : {s t : State} → Alike touch grid s t → Agree touch grid s t
-  agree (start first first′) =
+  agree : {s t : State} → AlikeBy touch grid s t → Agree touch grid s t
+  agree (start first first′ kind kind′) =
       record {
-        left = fresh-steady touch first;
-        right = fresh-steady touch first′;
+        left = fresh-steady touch first kind;
+        right = fresh-steady touch first′ kind′;
         views = refl;
         sim = record { f = λ g. g; L = λ g. ⊥; same = refl; uses = λ q m. mem-nil m; low = λ g l. absurd l; low′ = λ g l. absurd l; mono = λ g h l k. absurd l };
       }
   agree (next {s} {t} b d r e f h) =
-      subst (λ x. Agree touch grid x (update touch t d .1)) (sym (update-accepted touch s b e .1))
-      (subst (λ x. Agree touch grid (accepted touch s b) x) (sym (update-accepted touch t d f .1)) (accepted-agree s t b d (agree r) h))
+      subst (λ x. Agree touch grid x (updateBy touch t d .1)) (sym (update-accepted touch s b e .1))
+      (subst (λ x. Agree touch grid (acceptedBy touch s b) x) (sym (update-accepted touch t d f .1)) (accepted-agree s t b d (agree r) h))
 
   -- A group with a cell on the grid is on the grid.
   group-on : (s : State) → Steady touch s → {a : Cell} {g : ℕ} → At same (s .groups .ids) a g → T (onGrid grid a) → (q : Cell × ℕ) → Mem q (s .groups .ids) → T (eqb g (q .1)) → T (onGrid grid (q .0))
@@ -143,11 +143,11 @@ module _ (touch : Cell → Cell → Bool) (laws : Touching touch) (grid : ℕ) w
         }
 
   -- Runs that are alike on a grid show the same of it.
-  pub isolation : {s t : State} → Alike touch grid s t → SameOn touch grid s t
+  pub isolation : {s t : State} → AlikeBy touch grid s t → SameOn touch grid s t
   isolation r = same-on (agree r)
 
   -- An entity that stands on the grid in one run stands there in the other.
-  pub whereIs-same : {s t : State} → Alike touch grid s t → (e : ℕ) (c : Cell) → T (onGrid grid c) → whereIs s e ≡ some c → whereIs s e ≡ whereIs t e
+  pub whereIs-same : {s t : State} → AlikeBy touch grid s t → (e : ℕ) (c : Cell) → T (onGrid grid c) → whereIs s e ≡ some c → whereIs s e ≡ whereIs t e
   whereIs-same {s} {t} r e c u p =
       p ∙ sym (asc-mem-at numbers (t .occupancy .entities) (agree r .right .sound .asc)
       (keep-out (λ (q : ℕ × Cell). onGrid grid (q .1)) (t .occupancy .entities)
@@ -179,7 +179,7 @@ module _ (touch : Cell → Cell → Bool) (grid : ℕ) {s t : State} (r : SameOn
       seen x = sym (ap keys (keep-sub (λ (p : ℕ × Cell). same c (p .1)) (λ (p : ℕ × Cell). onGrid grid (p .1)) (x .occupancy .entities) (λ q m t. subst (λ d. T (onGrid grid d)) (cells .same-eq c (q .1) t) u)))
 
   -- The cell and the occupied cells that touch it.
-  pub nearby-same : Touching touch → nearby touch s c ≡ nearby touch t c
+  pub nearby-same : Touching touch → nearbyBy touch s c ≡ nearbyBy touch t c
   nearby-same laws = let e = seen s ∙ ap (λ l. keep (touch c) (keys l)) (r .masks) ∙ sym (seen t) in λ i. record { found = occupied-same i; list = cond (occupied-same i) (c ∷ e i) [] }
     where
       seen : (x : State) → keep (touch c) (occupied (x .occupancy)) ≡ keep (touch c) (keys (only (onGrid grid) (x .occupancy .masks)))
@@ -211,9 +211,9 @@ cube-same touch grid {s} {t} same-on c u r =
     λ i. record { found = occupied-same touch grid same-on c u i; list = e i }
 
 -- For every set of offsets that holds the opposite of each of its members.
-pub isolation-by : (offsets : Offsets) → T (holdsOpposites offsets) → (grid : ℕ) {s t : State} → Alike (touchBy offsets) grid s t → SameOn (touchBy offsets) grid s t
+pub isolation-by : (offsets : Offsets) → T (holdsOpposites offsets) → (grid : ℕ) {s t : State} → AlikeBy (touchBy offsets) grid s t → SameOn (touchBy offsets) grid s t
 isolation-by offsets ok = isolation (touchBy offsets) (touching-by offsets ok)
 
 -- For all 26.
-pub isolation-26 : (grid : ℕ) {s t : State} → Alike (touchBy all26) grid s t → SameOn (touchBy all26) grid s t
+pub isolation-26 : (grid : ℕ) {s t : State} → AlikeBy (touchBy all26) grid s t → SameOn (touchBy all26) grid s t
 isolation-26 = isolation-by all26 tt

@@ -14,7 +14,7 @@ use Rattle.model.specs.Masks.{bit, touching, leadsTo, maskOf}
 use Rattle.model.specs.Occupancy.{occupied}
 use Rattle.model.specs.Update.{State}
 use Rattle.model.specs.Questions.{onesOf, neighbourCount}
-use Rattle.model.specs.Consistent.{consistent}
+use Rattle.model.specs.Consistent.{consistentBy}
 use Rattle.model.specs.Laws.Tests.{and-fst, and-snd, and-both, same-test}
 use Rattle.model.specs.Laws.Orders.{cells}
 use Rattle.model.specs.Laws.Members.{any-in, any-out, keep-in, keep-out, keep-ext, keep-each, each-in, each-out, each-each, each-length, count-out, has-of, of-has}
@@ -108,7 +108,7 @@ module _ (s : Offsets) (l : List Cell) (c : Cell) where
   mask-leads k h t = led-shift (offsetAt k) (subst T (mask-bit (touchBy s) l c k h) t) .0
 
 -- In a consistent state the neighbour count of an occupied cell is the number of occupied cells that it touches; no other cell has one.
-pub count-exact : (offsets : Offsets) → T (holdsOpposites offsets) → (s : State) → T (consistent (touchBy offsets) s) → (c : Cell)
+pub count-exact : (offsets : Offsets) → T (holdsOpposites offsets) → (s : State) → T (consistentBy (touchBy offsets) s) → (c : Cell)
     → neighbourCount s c ≡ cond (has same (occupied (s .occupancy)) c) (some (length (touching (touchBy offsets) (occupied (s .occupancy)) c))) none
 count-exact offsets closed s ok c =
     let k : Ok (touchBy offsets) s = ok-out (touchBy offsets) (touching-by offsets closed .flip) s ok in
@@ -123,6 +123,6 @@ count-exact offsets closed s ok c =
     told false m n e = refl
 
 -- For all 26.
-pub count-26 : (s : State) → T (consistent touch26 s) → (c : Cell)
+pub count-26 : (s : State) → T (consistentBy touch26 s) → (c : Cell)
     → neighbourCount s c ≡ cond (has same (occupied (s .occupancy)) c) (some (length (touching touch26 (occupied (s .occupancy)) c))) none
 count-26 = count-exact all26 tt

@@ -15,8 +15,8 @@ use Rattle.model.specs.Paths.{Joined, stop, step}
 use Rattle.model.specs.Shortest.{stepsFrom, walk, stepNumbers, walkFirst, shownPath, IsPath, end, on, Shown}
 use Rattle.model.specs.Update.{State}
 use Rattle.model.specs.Questions.{idOf}
-use Rattle.model.specs.Consistent.{consistent}
-use Rattle.model.specs.Runs.{Reached}
+use Rattle.model.specs.Consistent.{consistentBy}
+use Rattle.model.specs.Runs.{ReachedBy}
 use Rattle.model.specs.Laws.Orders.{cells}
 use Rattle.model.specs.Laws.Members.{keep-in, count-in, has-of, Once, once-shorter}
 use Rattle.model.specs.Laws.Sorted.{Asc}
@@ -118,7 +118,7 @@ path-self touch among a s m = path-unique touch among a a s (record { is-path = 
     alone (end d e) h = refl
     alone (on d t w) h = absurd (omega (arith, leads-steps touch among a w .1))
 
-module _ (touch : Cell → Cell → Bool) (laws : Touching touch) (s : State) (t : T (consistent touch s)) (a b : Cell) where
+module _ (touch : Cell → Cell → Bool) (laws : Touching touch) (s : State) (t : T (consistentBy touch s)) (a b : Cell) where
   -- In a consistent state a path is shown exactly if both cells have the same id.
   pub path-group : ((p : List Cell) × (shownPath touch (occupied (s .occupancy)) a b ≡ some p)) ↔ ((g : ℕ) × (idOf s a ≡ some g) × (idOf s b ≡ some g))
   path-group = (
@@ -134,7 +134,7 @@ module _ (touch : Cell → Cell → Bool) (laws : Touching touch) (s : State) (t
       ok = grouping-consistent touch laws s t
 
 -- In every state that a history of accepted batches leads to.
-module _ (touch : Cell → Cell → Bool) (laws : Touching touch) {s : State} (r : Reached touch s) (a b : Cell) where
+module _ (touch : Cell → Cell → Bool) (laws : Touching touch) {s : State} (r : ReachedBy touch s) (a b : Cell) where
   -- A path is shown exactly if both cells have the same id.
   pub path-reached : ((p : List Cell) × (shownPath touch (occupied (s .occupancy)) a b ≡ some p)) ↔ ((g : ℕ) × (idOf s a ≡ some g) × (idOf s b ≡ some g))
   path-reached = path-group touch laws s (consistent-reached touch laws r) a b

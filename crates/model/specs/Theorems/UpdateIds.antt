@@ -8,9 +8,9 @@ use lib.Dec.{T}
 use lib.ListN.{length}
 use Rattle.model.specs.Cells.{Cell}
 use Rattle.model.specs.Occupancy.{Batch, playBatch}
-use Rattle.model.specs.Update.{State, accepted, update}
+use Rattle.model.specs.Update.{State, acceptedBy, updateBy}
 use Rattle.model.specs.Questions.{idOf}
-use Rattle.model.specs.Consistent.{consistent}
+use Rattle.model.specs.Consistent.{consistentBy}
 use Rattle.model.specs.Laws.Orders.{cells}
 use Rattle.model.specs.Laws.Tables.{at-mem, asc-fair, keys-length}
 use Rattle.model.specs.Laws.Values.{value-in}
@@ -21,7 +21,7 @@ use Rattle.model.specs.Laws.Consistency.{Ok, ok-out, ids-asc, fine-of, s
 use Rattle.model.specs.Theorems.StaysConsistent.{accepted-ok}
 use Rattle.model.specs.Theorems.Ids.{Later, ids-not-reused, ids-enough-2048}
 
-module _ (touch : Cell → Cell → Bool) (laws : Touching touch) (s : State) (t : T (consistent touch s)) where
+module _ (touch : Cell → Cell → Bool) (laws : Touching touch) (s : State) (t : T (consistentBy touch s)) where
   ok : Ok touch s
   ok = ok-out touch (laws .flip) s t
 
@@ -34,25 +34,25 @@ module _ (touch : Cell → Cell → Bool) (laws : Touching touch) (s : State) (t
   id-never-again g low ended l a e =
       ids-not-reused touch l (asc-fair cells (s .groups .ids) (ids-asc touch s ok)) low (λ b p. ended b (p .is)) a (record { is = e })
 
-  module _ (b : Batch) (e : update touch s b .0 ≡ 0) where
+  module _ (b : Batch) (e : updateBy touch s b .0 ≡ 0) where
     yes : Accepts touch s b
     yes = accepts touch s b (update-accepted touch s b e .0)
 
-    few : Ok touch (accepted touch s b)
+    few : Ok touch (acceptedBy touch s b)
     few = accepted-ok touch laws s b ok yes
 
-    taken : accepted touch s b .groups .next ≤ s .groups .next + 2048
-    unfolding accepted
+    taken : acceptedBy touch s b .groups .next ≤ s .groups .next + 2048
+    unfolding acceptedBy
     taken =
         ids-enough-2048 touch (laws .flip) (s .groups) (fine-of touch s ok) (playBatch touch b (s .occupancy) .newlyOccupied) (playBatch touch b (s .occupancy) .newlyEmptied)
         (opened-asc touch laws s (steady-of touch s ok) b) (opened-free touch laws s (steady-of touch s ok) b)
         (few .few-occupied)
-        (omega (arith, few .few-cells, ap length (few .id-cells), keys-length (accepted touch s b .groups .ids)))
+        (omega (arith, few .few-cells, ap length (few .id-cells), keys-length (acceptedBy touch s b .groups .ids)))
 
     -- An accepted update takes at most 2,048 ids.
-    pub ids-taken : update touch s b .1 .groups .next ≤ s .groups .next + 2048
+    pub ids-taken : updateBy touch s b .1 .groups .next ≤ s .groups .next + 2048
     ids-taken = subst (λ (u : State). u .groups .next ≤ s .groups .next + 2048) (sym (update-accepted touch s b e .1)) taken
 
     -- So the next id stays a number of 64 bits.
-    pub next-fits : update touch s b .1 .groups .next < 18446744073709551616
+    pub next-fits : updateBy touch s b .1 .groups .next < 18446744073709551616
     next-fits = omega (arith, ids-taken, yes .ids-left)

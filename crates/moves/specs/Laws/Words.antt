@@ -8,6 +8,8 @@ use mathlib.Core.List.{List, [], _∷_, _++_}
 use lib.ListN.{length, take, drop}
 use lib.Seq.{drop-append-seam, length-take-le}
 use Rattle.component.specs.Coord.{coordInRange}
+use Rattle.refusal.specs.declared.Refusal.{Refusal}
+use Rattle.refusal.specs.Forms.{none, tooShort}
 use Rattle.component.specs.Stored.{storedWord, signedWord, stored}
 use Rattle.component.specs.Laws.Range.{in-range-axes, range-of-stored}
 use Rattle.component.specs.Laws.Tests.{both}
@@ -57,16 +59,16 @@ moves-in (e ∷ es) h =
     let p = both (coordInRange (e .cell .coord)) (all (λ (d : Placing). coordInRange (d .cell .coord)) es) h in
     λ i. (sym (range-of-stored (e .cell)) ∙ p .0) i && moves-in es (p .1) i
 
--- ---- what is written
+-- What is written: nothing, or the words at their place.
 module _ (s : List ℕ) (at : ℕ) (e : Placing) where
-  pub moved-not : leb (at + moveWidth) (length s) ≡ false → _≡_ {A = ℕ × List ℕ} (1, s) (moved s at e)
+  pub moved-not : leb (at + moveWidth) (length s) ≡ false → (tooShort, s) ≡ moved s at e
   unfolding moved
-  moved-not h = ap (λ (b : Bool). cond {A = ℕ × List ℕ} b (0, over s at (moveWords e)) (1, s)) (sym h)
+  moved-not h = ap (λ (b : Bool). cond {A = Refusal × List ℕ} b (none, over s at (moveWords e)) (tooShort, s)) (sym h)
 
-  pub moved-there : (t words : List ℕ) → leb (at + moveWidth) (length s) ≡ true → t ≡ over s at words → words ≡ moveWords e → _≡_ {A = ℕ × List ℕ} (0, t) (moved s at e)
+  pub moved-there : (t words : List ℕ) → leb (at + moveWidth) (length s) ≡ true → t ≡ over s at words → words ≡ moveWords e → (none, t) ≡ moved s at e
   unfolding moved
   moved-there t words h p q =
-      ap (λ (l : List ℕ). (0, l)) (p ∙ ap (over s at) q) ∙ ap (λ (b : Bool). cond {A = ℕ × List ℕ} b (0, over s at (moveWords e)) (1, s)) (sym h)
+      ap (λ (l : List ℕ). (none, l)) (p ∙ ap (over s at) q) ∙ ap (λ (b : Bool). cond {A = Refusal × List ℕ} b (none, over s at (moveWords e)) (tooShort, s)) (sym h)
 
 -- The words of a cell behind those of an entity.
 pub words-made : (n : ℕ) (d : Cell) → over (n ∷ 0 ∷ 0 ∷ 0 ∷ 0 ∷ []) 1 (answerWords d) ≡ n ∷ answerWords d

@@ -93,7 +93,7 @@ next-row-requires c κs =
     let l = c .before .before .before in
     let s = start l in
     let h = c .before .before .loop-test .taken in
-    (s .pre .table, s .pre .row, h, sym (s .pre .exact (l .loop .k) h) ∙ is-set c)
+    (s .pre .table, s .pre .row, h, (s .pre .kind, sym (s .pre .exact (l .loop .k) h) ∙ is-set c))
 
 mul-if2 : tie.Need-mul-if2 Inv-loop μ-loop
 mul-if2 c = let h = there c in search needs

@@ -21,7 +21,7 @@ near-of-requires c κs =
     let s = c .before .before in (
       s .pre .2,
       subst (λ (a : Cell). Lands a (offsetAt (s .args .k))) (sym (c .cell-at .ensures))
-          (lands (s .args .cells .now) (s .args .n) (λ j. omega (arith, c .before .shared-slice-known .given j)) (rowCell (s .args .cells .now) (s .args .i)) (offsetAt (s .args .k)) (s .pre .3)),
+          (lands (s .args .cells .now) (s .args .n) (λ j. omega (arith, c .before .shared-slice-known .given j)) (s .pre .3 .0) (rowCell (s .args .cells .now) (s .args .i)) (offsetAt (s .args .k)) (s .pre .3 .1)),
     )
 
 returns : tie.Need-returns

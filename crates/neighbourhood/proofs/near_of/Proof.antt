@@ -10,14 +10,14 @@ use Rattle.neighbourhood.proofs.near_of.Statement.{statement}
 use Rattle.neighbourhood.proofs.near_of.Tie as tie
 
 -- The offset by the place in the block.
-at-place : (a : tie.After-block-place) → offsetAt (a .before .args .k) ≡ offsetOf (a .block-place .result)
-at-place a = offset-is (a .before .args .k) (a .before .pre .0) ∙ ap offsetOf (sym (a .block-place .ensures))
+at-place : (a : tie.After-step) → offsetAt (a .before .args .k) ≡ offsetOf (a .step .result)
+at-place a = offset-is (a .before .args .k) (a .before .pre .0) ∙ ap offsetOf (sym (a .step .ensures))
 
-landed : (a : tie.After-block-place) → Lands (a .before .args .c) (offsetOf (a .block-place .result))
+landed : (a : tie.After-step) → Lands (a .before .args .c) (offsetOf (a .step .result))
 landed a = subst (Lands (a .before .args .c)) (at-place a) (a .before .pre .1)
 
-block-place-requires : tie.Need-block-place-requires
-block-place-requires c κs = search needs
+step-requires : tie.Need-step-requires
+step-requires c κs = search needs
 
 axis-to-requires : tie.Need-axis-to-requires
 axis-to-requires c κs = landed c .z
@@ -38,4 +38,4 @@ returns c =
 pub near-of-spec : {M : Type 1} → statement M
 near-of-spec =
     tie.close
-    (tie.spec block-place-requires axis-to-requires axis-to-requires-2 axis-to-requires-3 returns)
+    (tie.spec step-requires axis-to-requires axis-to-requires-2 axis-to-requires-3 returns)

@@ -7,7 +7,7 @@ use mathlib.Core.List.{List, [], _∷_, _++_}
 use lib.ListN.{length, length-append}
 use borrow.Author.Needs.{needs}
 use Rattle.model.specs.Lists.{keys}
-use Rattle.model.specs.Cells.{Cell, touch26}
+use Rattle.model.specs.Cells.{Cell, touchAt}
 use Rattle.model.specs.Masks.{bit, touching}
 use Rattle.layout.specs.Widths.{answerWidth, cellWidth}
 use Rattle.neighbourhood.specs.Rows.{rowCell, rowMask, rowNear, rowList}
@@ -111,7 +111,7 @@ near-cell-requires c κs =
     let l = c .before .before .before in
     let s = start l in
     let h = c .before .before .loop-test .taken in
-    (s .pre .cells .fits, s .pre .there, h, sym (row-bit (s .args .cells .now) (s .args .n) (s .pre .table) (s .pre .cells) (s .args .row) (s .pre .there) (l .loop .k) h) ∙ is-set c)
+    (s .pre .cells .fits, s .pre .there, h, (s .pre .kind, sym (row-bit (s .args .cells .now) (s .args .n) (s .pre .table) (s .pre .cells) (s .args .row) (s .pre .there) (l .loop .k) h) ∙ is-set c))
 
 mul-write-cell : tie.Need-mul-write-cell Inv-loop μ-loop
 mul-write-cell c = let h = fits (c .before .before) .1 in search needs
@@ -168,8 +168,8 @@ returns c =
     let l = c .before in
     let s = start l in
     let v = l .loop .inv in
-    λ t k.
-    let e : done l (l .loop .k) ≡ rowCell (s .args .cells .now) (s .args .row) ∷ touching touch26 (keys t) (rowCell (s .args .cells .now) (s .args .row)) =
+    λ kind t k.
+    let e : done l (l .loop .k) ≡ rowCell (s .args .cells .now) (s .args .row) ∷ touching (touchAt kind) (keys t) (rowCell (s .args .cells .now) (s .args .row)) =
     near-all (s .args .cells .now) (s .args .row) (l .loop .k) (c .loop-test .left)
     ∙ ap (λ (m : List Cell). rowCell (s .args .cells .now) (s .args .row) ∷ m) (row-list (s .args .cells .now) (s .args .n) t k (s .args .row) (s .pre .there)) in
     record { number = v .1 ∙ ap length e; written = shown l ∙ ap (filled (s .args .answer .now)) e }

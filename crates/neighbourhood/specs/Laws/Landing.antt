@@ -6,7 +6,7 @@ use mathlib.Core.Bool.{true, _&&_}
 use mathlib.Core.List.{List, List·Memᴰ as Mem}
 use lib.ListN.{length, getD}
 use Rattle.model.specs.Lists.{keys}
-use Rattle.model.specs.Cells.{Cell, Offset, touch26, leads}
+use Rattle.model.specs.Cells.{Cell, Offset, touchAt, leads}
 use Rattle.model.specs.Masks.{leadsTo}
 use Rattle.model.specs.Laws.Tests.{and-snd, T-true}
 use Rattle.model.specs.Laws.Members.{any-out}
@@ -29,10 +29,10 @@ module _ (s : List ℕ) (n : ℕ) (words : (j : ℕ) → getD s j 0 < 1844674407
       )
 
   -- A step that leads to one of the cells.
-  pub lands : (c : Cell) (o : Offset) → leadsTo touch26 (keys (table4 cellWidth n s)) c o ≡ true → Lands c o
-  lands c o e =
-      let r = any-out (λ d. touch26 c d && leads c d o) (keys (table4 cellWidth n s)) (T-true e) in
-      let p = leads-parts c (r .0) o (and-snd (touch26 c (r .0)) _ (r .2)) in
+  pub lands : (kind : ℕ) (c : Cell) (o : Offset) → leadsTo (touchAt kind) (keys (table4 cellWidth n s)) c o ≡ true → Lands c o
+  lands kind c o e =
+      let r = any-out (λ d. touchAt kind c d && leads c d o) (keys (table4 cellWidth n s)) (T-true e) in
+      let p = leads-parts c (r .0) o (and-snd (touchAt kind c (r .0)) _ (r .2)) in
       let w = row-words (r .0) (r .1) in
       record {
         x = (omega (arith, p .0), omega (arith, p .0, w .0));

@@ -68,7 +68,7 @@ module _ (words : List ℕ) (seed : Cell) (depth : ℕ) (marks : List ℕ) where
         }
 
 -- Where no row was marked, the unmarked cells are then the occupied ones within the depth.
-pub outside-open : (words : List ℕ) (n : ℕ) (t : List (Cell × ℕ)) → Cells words n t → (seed : Cell) (depth : ℕ) (marks marks′ : List ℕ) → ((j : ℕ) → j < n → getD marks j 0 ≡ 0)
+pub outside-open : {kind : ℕ} (words : List ℕ) (n : ℕ) (t : List (Cell × ℕ)) → Cells kind words n t → (seed : Cell) (depth : ℕ) (marks marks′ : List ℕ) → ((j : ℕ) → j < n → getD marks j 0 ≡ 0)
     → OutsideMarked words n seed depth marks marks′ → openCells words n marks′ ≡ keep (withinDepth depth seed) (keys t)
 outside-open words n t k seed depth marks marks′ z o =
     open-where words n t k marks′ (withinDepth depth seed)

@@ -8,7 +8,7 @@ use mathlib.Core.List.{List, List·Memᴰ as Mem, Memᴰ·cast as mem-cast}
 use lib.ListN.{length, take, drop, getD}
 use lib.Seq.{getD-drop}
 use Rattle.model.specs.Lists.{each, keep, keys, isAscending, count}
-use Rattle.model.specs.Cells.{Cell, below, all26, touch26, shift}
+use Rattle.model.specs.Cells.{Cell, below, offsetsOf, touchAt, shift}
 use Rattle.model.specs.Masks.{bit, touching, leadsTo, maskOf, masked}
 use Rattle.model.specs.Laws.Tests.{T-true, true-of}
 use Rattle.model.specs.Laws.Orders.{cells}
@@ -38,12 +38,12 @@ abbrev noRow : Cell × ℕ
 noRow = (record { grid = 0; z = 0; y = 0; x = 0 }, 0)
 
 -- The words of a table of ascending cells with exact masks hold it.
-pub cells-of : (t : List (Cell × ℕ)) → t ≡ masked touch26 (keys t) → (len : ℕ) → Asc below (keys t) → cellWidth * length t ≤ len → Cells (cellsImage len t) (length t) t
-cells-of t x len s h =
+pub cells-of : (kind : ℕ) (t : List (Cell × ℕ)) → t ≡ masked (touchAt kind) (keys t) → (len : ℕ) → Asc below (keys t) → cellWidth * length t ≤ len → Cells kind (cellsImage len t) (length t) t
+cells-of kind t x len s h =
     let e : length (cellsImage len t) ≡ len = cells-laws .long len t (λ a m. tt) h in
     record { image = ap (λ m. cellsImage m t) (sym e); number = refl; fits = omega arith; asc = s; exact = x }
 
-module _ (words : List ℕ) (n : ℕ) (t : List (Cell × ℕ)) (k : Cells words n t) where
+module _ {kind : ℕ} (words : List ℕ) (n : ℕ) (t : List (Cell × ℕ)) (k : Cells kind words n t) where
   written : words ≡ image4 (length words) (each idRow t)
   unfolding cellsImage
   written = k .image
@@ -100,24 +100,24 @@ module _ (words : List ℕ) (n : ℕ) (t : List (Cell × ℕ)) (k : Cells words 
     row-occupied = mem-cast cell-is (key-in row-in)
 
     -- The mask of row i is that of its cell.
-    pub row-mask : rowMask words i ≡ maskOf touch26 (keys t) (rowCell words i)
+    pub row-mask : rowMask words i ≡ maskOf (touchAt kind) (keys t) (rowCell words i)
     row-mask =
-        let r = each-out (λ c. (c, maskOf touch26 (keys t) c)) (keys t) (subst (λ l. Mem row l) (k .exact) row-in) in
-        word-is ∙ ap (λ (p : Cell × ℕ). p .1) (r .2) ∙ ap (maskOf touch26 (keys t)) (sym (cell-is ∙ ap (λ (p : Cell × ℕ). p .0) (r .2)))
+        let r = each-out (λ c. (c, maskOf (touchAt kind) (keys t) c)) (keys t) (subst (λ l. Mem row l) (k .exact) row-in) in
+        word-is ∙ ap (λ (p : Cell × ℕ). p .1) (r .2) ∙ ap (maskOf (touchAt kind) (keys t)) (sym (cell-is ∙ ap (λ (p : Cell × ℕ). p .0) (r .2)))
 
     -- The cells that its set bits tell of are those that it touches, in cell order.
-    pub row-list : rowList words i ≡ touching touch26 (keys t) (rowCell words i)
-    unfolding rowList rowNear
+    pub row-list : rowList words i ≡ touching (touchAt kind) (keys t) (rowCell words i)
+    unfolding rowList rowNear touchAt
     row-list =
         ap (λ m. each (λ j. shift (rowCell words i) (offsetAt j)) (keep (bit m) (count 0 26))) row-mask
-        ∙ mask-cells all26 (keys t) (rowCell words i) (k .asc)
+        ∙ mask-cells (offsetsOf kind) (keys t) (rowCell words i) (k .asc)
 
     -- A bit is set where it leads to one of them.
-    pub row-bit : (j : ℕ) → j < 26 → bit (rowMask words i) j ≡ leadsTo touch26 (keys (table4 cellWidth n words)) (rowCell words i) (offsetAt j)
+    pub row-bit : (j : ℕ) → j < 26 → bit (rowMask words i) j ≡ leadsTo (touchAt kind) (keys (table4 cellWidth n words)) (rowCell words i) (offsetAt j)
     row-bit j g =
         ap (λ m. bit m j) row-mask
-        ∙ mask-bit touch26 (keys t) (rowCell words i) j g
-        ∙ ap (λ l. leadsTo touch26 l (rowCell words i) (offsetAt j)) (sym cells-keys)
+        ∙ mask-bit (touchAt kind) (keys t) (rowCell words i) j g
+        ∙ ap (λ l. leadsTo (touchAt kind) l (rowCell words i) (offsetAt j)) (sym cells-keys)
 
   -- A cell stands in one row.
   pub row-once : (i j : ℕ) → i < n → j < n → rowCell words i ≡ rowCell words j → i ≡ j
@@ -137,12 +137,12 @@ module _ (words : List ℕ) (n : ℕ) (t : List (Cell × ℕ)) (k : Cells words 
       go (Missing i) e = absurd (missing-key cells d (keys (table4 cellWidth n words)) i (subst (Asc below) (sym cells-keys) (k .asc)) e (subst (λ l. Mem d l) (sym cells-keys) m))
 
   -- No cell touches another twice.
-  pub touching-once : (c : Cell) → Once (touching touch26 (keys t) c)
-  touching-once c = once-keep (touch26 c) (keys t) (asc-once cells (k .asc))
+  pub touching-once : (c : Cell) → Once (touching (touchAt kind) (keys t) c)
+  touching-once c = once-keep (touchAt kind c) (keys t) (asc-once cells (k .asc))
 
   -- The touching cells are occupied.
-  pub touching-in : (c d : Cell) → Mem d (touching touch26 (keys t) c) → Mem d (keys t)
-  touching-in c d m = keep-out (touch26 c) (keys t) m .0
+  pub touching-in : (c d : Cell) → Mem d (touching (touchAt kind) (keys t) c) → Mem d (keys t)
+  touching-in c d m = keep-out (touchAt kind c) (keys t) m .0
 
   module _ (i : ℕ) (h : i < n) where
     list-in : (d : Cell) → Mem d (rowList words i) → Mem d (keys t)
@@ -153,7 +153,7 @@ module _ (words : List ℕ) (n : ℕ) (t : List (Cell × ℕ)) (k : Cells words 
     onward-list = sym (each-each (rowFor words n) (rowNear words i) (keep (bit (rowMask words i)) (count 0 26)))
 
     -- The rows that row i leads to have the cells that it touches.
-    pub onward-cells : each (rowCell words) (onward words n i) ≡ touching touch26 (keys t) (rowCell words i)
+    pub onward-cells : each (rowCell words) (onward words n i) ≡ touching (touchAt kind) (keys t) (rowCell words i)
     onward-cells =
         ap (each (rowCell words)) onward-list
         ∙ each-each (rowCell words) (rowFor words n) (rowList words i)

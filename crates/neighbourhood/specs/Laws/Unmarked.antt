@@ -9,12 +9,12 @@ use borrow.Author.Tests.{eq-eqb}
 use lib.Dec.{T, eqb→eq}
 use lib.ListN.{length, drop, getD}
 use Rattle.model.specs.Lists.{each, keep, keys, count}
-use Rattle.model.specs.Cells.{Cell, touch26}
+use Rattle.model.specs.Cells.{Cell, touchAt}
 use Rattle.model.specs.Laws.Tests.{eqb-of}
 use Rattle.model.specs.Laws.Orders.{numbers}
 use Rattle.model.specs.Laws.Members.{keep-in, keep-out, keep-all, keep-ext, keep-keep, keep-swap, keep-each, each-in, each-out, each-length, count-in, count-out, Once, once-keep, once-each}
 use Rattle.model.specs.Laws.Sorted.{asc-once, count-asc}
-use Rattle.model.specs.Laws.Touching.{touching-26}
+use Rattle.model.specs.Laws.Kinds.{kind-touching}
 use Rattle.neighbourhood.specs.Rows.{rowCell, onward}
 use Rattle.neighbourhood.specs.Fronts.{isOpen}
 use Rattle.neighbourhood.specs.Standing.{Cells, openCells}
@@ -47,7 +47,7 @@ counted n j h = count-in 0 n (omega arith) (omega arith)
 pub counted-under : (n j : ℕ) → Mem j (count 0 n) → j < n
 counted-under n j m = let r = count-out 0 n m in omega arith
 
-module _ (words : List ℕ) (n : ℕ) (t : List (Cell × ℕ)) (k : Cells words n t) where
+module _ {kind : ℕ} (words : List ℕ) (n : ℕ) (t : List (Cell × ℕ)) (k : Cells kind words n t) where
   long : length (keys t) ≡ n
   long = each-length (λ (p : Cell × ℕ). p .0) t ∙ sym (k .number)
 
@@ -59,23 +59,23 @@ module _ (words : List ℕ) (n : ℕ) (t : List (Cell × ℕ)) (k : Cells words 
       (λ i h. let u : i < n = omega (arith, long) in let e : i ≡ 0 + i = omega arith in key-is words n t k i u ∙ ap (rowCell words) e)
 
   -- A row leads to those whose cells it touches.
-  pub onward-are : (i : ℕ) → i < n → onward words n i ≡ keep (λ j. touch26 (rowCell words i) (rowCell words j)) (count 0 n)
+  pub onward-are : (i : ℕ) → i < n → onward words n i ≡ keep (λ j. touchAt kind (rowCell words i) (rowCell words j)) (count 0 n)
   onward-are i h =
-      each-inj (rowCell words) (onward words n i) (keep (λ j. touch26 (rowCell words i) (rowCell words j)) (count 0 n))
+      each-inj (rowCell words) (onward words n i) (keep (λ j. touchAt kind (rowCell words i) (rowCell words j)) (count 0 n))
       (λ a b m o. row-once words n t k a b (onward-under words n t k i h a m) (counted-under n b (keep-out _ (count 0 n) o .0)))
       (onward-cells words n t k i h
-      ∙ ap (keep (touch26 (rowCell words i))) (sym rows-keys)
-      ∙ keep-each (rowCell words) (touch26 (rowCell words i)) (count 0 n))
+      ∙ ap (keep (touchAt kind (rowCell words i))) (sym rows-keys)
+      ∙ keep-each (rowCell words) (touchAt kind (rowCell words i)) (count 0 n))
 
-  pub onward-touch : (i j : ℕ) → i < n → Mem j (onward words n i) → T (touch26 (rowCell words i) (rowCell words j))
-  onward-touch i j h m = keep-out (λ j. touch26 (rowCell words i) (rowCell words j)) (count 0 n) (subst (λ l. Mem j l) (onward-are i h) m) .1
+  pub onward-touch : (i j : ℕ) → i < n → Mem j (onward words n i) → T (touchAt kind (rowCell words i) (rowCell words j))
+  onward-touch i j h m = keep-out (λ j. touchAt kind (rowCell words i) (rowCell words j)) (count 0 n) (subst (λ l. Mem j l) (onward-are i h) m) .1
 
-  pub touch-onward : (i j : ℕ) → i < n → j < n → T (touch26 (rowCell words i) (rowCell words j)) → Mem j (onward words n i)
-  touch-onward i j h g u = subst (λ l. Mem j l) (sym (onward-are i h)) (keep-in (λ j. touch26 (rowCell words i) (rowCell words j)) (counted n j g) u)
+  pub touch-onward : (i j : ℕ) → i < n → j < n → T (touchAt kind (rowCell words i) (rowCell words j)) → Mem j (onward words n i)
+  touch-onward i j h g u = subst (λ l. Mem j l) (sym (onward-are i h)) (keep-in (λ j. touchAt kind (rowCell words i) (rowCell words j)) (counted n j g) u)
 
   -- What a row leads to leads back to it.
   pub onward-back : (i j : ℕ) → i < n → Mem j (onward words n i) → Mem i (onward words n j)
-  onward-back i j h m = touch-onward j i (onward-under words n t k i h j m) h (touching-26 .flip (rowCell words i) (rowCell words j) (onward-touch i j h m))
+  onward-back i j h m = touch-onward j i (onward-under words n t k i h j m) h (kind-touching kind .flip (rowCell words i) (rowCell words j) (onward-touch i j h m))
 
   -- The unmarked cells are those that pass a test, where it tells the unmarked rows.
   pub open-where : (marks : List ℕ) (p : Cell → Bool) → ((j : ℕ) → j < n → isOpen marks j ≡ p (rowCell words j)) → openCells words n marks ≡ keep p (keys t)
@@ -98,11 +98,11 @@ module _ (words : List ℕ) (n : ℕ) (t : List (Cell × ℕ)) (k : Cells words 
       ∙ ap (each (rowCell words)) (keep-keep (λ j. not (p (rowCell words j))) (isOpen marks) (count 0 n) ∙ sym (keep-ext (isOpen marks′) (λ j. isOpen marks j && not (p (rowCell words j))) (count 0 n) (λ j m. f j (counted-under n j m))))
 
   -- The touching ones of them are the cells of the unmarked rows that a row leads to.
-  pub open-touching : (i : ℕ) → i < n → (marks : List ℕ) → keep (touch26 (rowCell words i)) (openCells words n marks) ≡ each (rowCell words) (keep (isOpen marks) (onward words n i))
+  pub open-touching : (i : ℕ) → i < n → (marks : List ℕ) → keep (touchAt kind (rowCell words i)) (openCells words n marks) ≡ each (rowCell words) (keep (isOpen marks) (onward words n i))
   unfolding openCells
   open-touching i h marks =
-      keep-each (rowCell words) (touch26 (rowCell words i)) (keep (isOpen marks) (count 0 n))
-      ∙ ap (each (rowCell words)) (keep-swap (λ j. touch26 (rowCell words i) (rowCell words j)) (isOpen marks) (count 0 n) ∙ ap (keep (isOpen marks)) (sym (onward-are i h)))
+      keep-each (rowCell words) (touchAt kind (rowCell words i)) (keep (isOpen marks) (count 0 n))
+      ∙ ap (each (rowCell words)) (keep-swap (λ j. touchAt kind (rowCell words i) (rowCell words j)) (isOpen marks) (count 0 n) ∙ ap (keep (isOpen marks)) (sym (onward-are i h)))
 
   -- No unmarked cell comes twice.
   pub open-once : (marks : List ℕ) → Once (openCells words n marks)

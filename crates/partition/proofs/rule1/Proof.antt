@@ -14,8 +14,8 @@ found-at-requires c κs = search needs
 push-requires : tie.Need-push-requires
 push-requires c κs = search needs
 
-add-t16 : tie.Need-add-t16
-add-t16 c = search needs
+add-t17 : tie.Need-add-t17
+add-t17 c = search needs
 
 same-length : tie.Need-same-length
 same-length c = search needs
@@ -26,7 +26,7 @@ returns c =
     let a = s .args in
     let f = c .before .before .before .before .before .before .found-at in
     let p = c .before .before .push .ensures in
-    (p .0, omega arith, λ g h. rule1-none (a .ids .now) _ (a .n) (a .next) _ g (a .c) (f .last .1 .1 .1 .0) (f .result) h (f .ensures .1 (g .ids) (h .rows)) (c .before .before .before .before .if1 .taken) (p .1))
+    (p .0, omega arith, λ g h. rule1-none (a .kind) (a .ids .now) _ (a .n) (a .next) _ g (a .c) (f .last .1 .1 .1 .1 .0) (f .result) h (f .ensures .1 (g .ids) (h .rows)) (c .before .before .before .before .if1 .taken) (p .1))
 
 slice-aggregate-join : tie.Need-slice-aggregate-join
 slice-aggregate-join c = search needs
@@ -35,7 +35,7 @@ join-requires : tie.Need-join-requires
 join-requires c κs =
     let s = c .before .before .before .before .before .before .before .before in
     let f = c .before .before .before .before .found-at in
-    (s .pre .0 .ids, s .pre .1 .rows, s .pre .2, s .pre .3, omega (arith, c .before .before .if1 .left), omega (arith, f .ensures .0, f .kept .1 .1 .1 .0))
+    (s .pre .0 .ids, s .pre .1 .rows, s .pre .2, s .pre .3, omega (arith, c .before .before .if1 .left), omega (arith, f .ensures .0, f .kept .1 .1 .1 .1 .0))
 
 same-length-2 : tie.Need-same-length-2
 same-length-2 c = search needs
@@ -46,7 +46,7 @@ returns-2 c =
     let a = s .args in
     let f = c .before .before .before .before .before .before .before .found-at in
     let p = c .before .before .join .ensures in
-    (p .0, omega arith, λ g h. rule1-some (a .ids .now) _ (a .n) (a .next) _ g (a .c) (f .last .1 .1 .1 .0) (f .result) h (f .ensures .1 (g .ids) (h .rows)) (omega (arith, c .before .before .before .before .before .if1 .left)) (omega (arith, f .ensures .0, f .kept .1 .1 .1 .0)) (p .1))
+    (p .0, omega arith, λ g h. rule1-some (a .kind) (a .ids .now) _ (a .n) (a .next) _ g (a .c) (f .last .1 .1 .1 .1 .0) (f .result) h (f .ensures .1 (g .ids) (h .rows)) (omega (arith, c .before .before .before .before .before .if1 .left)) (omega (arith, f .ensures .0, f .kept .1 .1 .1 .1 .0)) (p .1))
 
 pub rule1-spec : {M : Type 1} → statement M
 rule1-spec =
@@ -55,7 +55,7 @@ rule1-spec =
     slice-aggregate-found-at
     found-at-requires
     push-requires
-    add-t16
+    add-t17
     same-length
     returns
     slice-aggregate-join

@@ -28,7 +28,7 @@ returns c =
     let a = s .args in
     let f = c .before .before .before .before .before .before .sift in (
       f .ensures .0,
-      λ next g l h k.
+      λ kind next g l h k.
           record {
             rows = sift-all (a .ids .now) _ _ (a .n) (g .ids) (h .rows) l (f .result) (f .ensures .0) (f .ensures .1) (f .kept .0) (f .ensures .2 (g .ids) l (h .rows) k) (c .before .before .write-zeros .ensures);
             is-next = h .is-next;

@@ -10,7 +10,7 @@ use lib.Dec.{eqb, ltb, eqb→eq}
 use lib.ListN.{length, take, drop, getD, set, length-append, take-append-drop, drop-of-length-le}
 use lib.Seq.{getD-take, drop-drop, drop-cons, take-all, length-take-le, drop-at, take-at}
 use Rattle.model.specs.Lists.{keep, all, has, keys, change, put, run}
-use Rattle.model.specs.Cells.{Cell, below, touch26}
+use Rattle.model.specs.Cells.{Cell, below, touchAt}
 use Rattle.model.specs.Groups.{Ids, Groups, members, size, largestGroup, merge, foundAt, joinFound, rule1}
 use borrow.Author.Tests.{lt-ltb, le-ltb, eq-eqb, ne-eqb}
 use Rattle.model.specs.Laws.Members.{keep-append, each-append, each-length, run-append, all-out, of-has}
@@ -244,40 +244,40 @@ join-same t c found k one a words r h =
     ∙ merge-nothing (put below c g t) g l f))
     h
 
-joined-some : (s : Groups) (c : Cell) (l : List ℕ) → 1 ≤ length l → joinFound touch26 s c l ≡ record { ids = joined (s .ids) c l; next = s .next }
+joined-some : (kind : ℕ) (s : Groups) (c : Cell) (l : List ℕ) → 1 ≤ length l → joinFound (touchAt kind) s c l ≡ record { ids = joined (s .ids) c l; next = s .next }
 unfolding joined
-joined-some s c [] h = absurd (omega arith)
-joined-some s c (g ∷ l) h = refl
+joined-some kind s c [] h = absurd (omega arith)
+joined-some kind s c (g ∷ l) h = refl
 
 -- Rule 1 where no group is found.
-pub rule1-none : (words words₁ : List ℕ) (n next r : ℕ) (s : Groups) (c : Cell) (found : List ℕ) (k : ℕ) → HeldIds words n next s
-    → take k found ≡ foundAt touch26 (s .ids) c → k ≡ 0 → ((t : Ids) → HeldRows words n t → HeldRows words₁ r (put below c next t))
-    → HeldIds words₁ r (next + 1) (rule1 touch26 s c)
-rule1-none words words₁ n next r s c found k held e z f =
-    let a : foundAt touch26 (s .ids) c ≡ [] = sym e ∙ ap (λ (m : ℕ). take m found) z in
+pub rule1-none : (kind : ℕ) (words words₁ : List ℕ) (n next r : ℕ) (s : Groups) (c : Cell) (found : List ℕ) (k : ℕ) → HeldIds words n next s
+    → take k found ≡ foundAt (touchAt kind) (s .ids) c → k ≡ 0 → ((t : Ids) → HeldRows words n t → HeldRows words₁ r (put below c next t))
+    → HeldIds words₁ r (next + 1) (rule1 (touchAt kind) s c)
+rule1-none kind words words₁ n next r s c found k held e z f =
+    let a : foundAt (touchAt kind) (s .ids) c ≡ [] = sym e ∙ ap (λ (m : ℕ). take m found) z in
     let b : next ≡ s .next = held .is-next in
-    subst (λ (u : Groups). HeldIds words₁ r (next + 1) u) (ap (joinFound touch26 s c) (sym a))
+    subst (λ (u : Groups). HeldIds words₁ r (next + 1) u) (ap (joinFound (touchAt kind) s c) (sym a))
     (record { rows = subst (λ (m : ℕ). HeldRows words₁ r (put below c m (s .ids))) b (f (s .ids) (held .rows)); is-next = omega arith })
 
 -- Rule 1 where a group is found.
-pub rule1-some : (words words₁ : List ℕ) (n next r : ℕ) (s : Groups) (c : Cell) (found : List ℕ) (k : ℕ) → HeldIds words n next s
-    → take k found ≡ foundAt touch26 (s .ids) c → 1 ≤ k → k ≤ length found → ((t : Ids) → HeldRows words n t → HeldRows words₁ r (joined t c (take k found)))
-    → HeldIds words₁ r next (rule1 touch26 s c)
-rule1-some words words₁ n next r s c found k held e z b f =
-    subst (λ (u : Groups). HeldIds words₁ r next u) (sym (joined-some s c (take k found) (omega (arith, length-take-le k found b))) ∙ ap (joinFound touch26 s c) e)
+pub rule1-some : (kind : ℕ) (words words₁ : List ℕ) (n next r : ℕ) (s : Groups) (c : Cell) (found : List ℕ) (k : ℕ) → HeldIds words n next s
+    → take k found ≡ foundAt (touchAt kind) (s .ids) c → 1 ≤ k → k ≤ length found → ((t : Ids) → HeldRows words n t → HeldRows words₁ r (joined t c (take k found)))
+    → HeldIds words₁ r next (rule1 (touchAt kind) s c)
+rule1-some kind words words₁ n next r s c found k held e z b f =
+    subst (λ (u : Groups). HeldIds words₁ r next u) (sym (joined-some kind s c (take k found) (omega (arith, length-take-le k found b))) ∙ ap (joinFound (touchAt kind) s c) e)
     (record { rows = f (s .ids) (held .rows); is-next = held .is-next })
 
 -- One newly occupied cell after the other.
-module _ (occupied : List ℕ) (m : ℕ) (l : List Cell) (cells : HeldCells occupied m l) (s : Groups) (i : ℕ) (words : List ℕ) (n next : ℕ)
-    (held : HeldIds words n next (run (rule1 touch26) s (take i l))) where
+module _ (kind : ℕ) (occupied : List ℕ) (m : ℕ) (l : List Cell) (cells : HeldCells occupied m l) (s : Groups) (i : ℕ) (words : List ℕ) (n next : ℕ)
+    (held : HeldIds words n next (run (rule1 (touchAt kind)) s (take i l))) where
   pub rules1-more : i < m → (words₁ : List ℕ) (r next₁ : ℕ) (c : Cell) → c ≡ cellAt occupied (netWidth * i)
-      → ((u : Groups) → HeldIds words n next u → HeldIds words₁ r next₁ (rule1 touch26 u c)) → HeldIds words₁ r next₁ (run (rule1 touch26) s (take (i + 1) l))
+      → ((u : Groups) → HeldIds words n next u → HeldIds words₁ r next₁ (rule1 (touchAt kind) u c)) → HeldIds words₁ r next₁ (run (rule1 (touchAt kind)) s (take (i + 1) l))
   rules1-more h words₁ r next₁ c e f =
       let a : take (i + 1) l ≡ take i l ++ cellAt occupied (netWidth * i) ∷ [] = ap (λ (j : ℕ). take j l) (add-one i) ∙ take-more l i (cellAt occupied (netWidth * i)) (cells-at occupied m l cells i h) in
       subst (λ (u : Groups). HeldIds words₁ r next₁ u)
-      (ap (rule1 touch26 (run (rule1 touch26) s (take i l))) e
-      ∙ sym (ap (run (rule1 touch26) s) a ∙ run-append (rule1 touch26) s (take i l) (cellAt occupied (netWidth * i) ∷ [])))
-      (f (run (rule1 touch26) s (take i l)) held)
+      (ap (rule1 (touchAt kind) (run (rule1 (touchAt kind)) s (take i l))) e
+      ∙ sym (ap (run (rule1 (touchAt kind)) s) a ∙ run-append (rule1 (touchAt kind)) s (take i l) (cellAt occupied (netWidth * i) ∷ [])))
+      (f (run (rule1 (touchAt kind)) s (take i l)) held)
 
-  pub rules1-all : m ≤ i → HeldIds words n next (run (rule1 touch26) s l)
-  rules1-all h = let c : m ≡ length l = cells .count in subst (λ (u : List Cell). HeldIds words n next (run (rule1 touch26) s u)) (take-all i l (omega arith)) held
+  pub rules1-all : m ≤ i → HeldIds words n next (run (rule1 (touchAt kind)) s l)
+  rules1-all h = let c : m ≡ length l = cells .count in subst (λ (u : List Cell). HeldIds words n next (run (rule1 (touchAt kind)) s u)) (take-all i l (omega arith)) held

@@ -13,13 +13,13 @@ use Rattle.parts_check.proofs.mark_parts.Tie as tie
 
 abbrev Inv-loop : tie.InvT-loop
 Inv-loop cells m marks₀ queue₀ i₀ marks queue i =
-    (i ≤ m) × (length marks ≡ length marks₀) × (length queue ≡ length queue₀) × ((t : List (Cell × ℕ)) → Cells cells m t → Labelled cells m t i marks)
+    (i ≤ m) × (length marks ≡ length marks₀) × (length queue ≡ length queue₀) × ((kind : ℕ) (t : List (Cell × ℕ)) → Cells kind cells m t → Labelled kind cells m t i marks)
 
 abbrev μ-loop : tie.MeasureT-loop
 μ-loop cells m marks₀ queue₀ i₀ marks queue i = m - i
 
 loop-holds : tie.Need-loop-holds Inv-loop μ-loop
-loop-holds c = let s = c .before .before .before in (omega arith, refl, refl, λ t k. labels-start (s .args .cells .now) (s .args .m) t k (s .args .marks .now) (s .pre .clear))
+loop-holds c = let s = c .before .before .before in (omega arith, refl, refl, λ kind t k. labels-start (s .args .cells .now) (s .args .m) t k (s .args .marks .now) (s .pre .clear))
 
 mul-if1 : tie.Need-mul-if1 Inv-loop μ-loop
 mul-if1 c = let e = c .before .loop .inv .1 in let f = c .before .before .before .before .before .pre .marksFit in omega arith
@@ -39,7 +39,7 @@ flood-rows-requires c κs =
     let a = s .pre .marksFit in
     let b = s .pre .queueFits in
     let u : l .loop .i + 1 < 18446744073709551616 = search needs in
-    labels-asks (s .args .cells .now) (s .args .m) (s .pre .stands .table) (s .pre .stands .cells) (l .loop .i) (l .loop .marks) (l .loop .inv .3 (s .pre .stands .table) (s .pre .stands .cells)) (l .loop .queue) (c .before .before .before .before .loop-test .taken) (c .before .before .if1 .taken) u (omega arith) (omega arith)
+    labels-asks (s .args .cells .now) (s .args .m) (s .pre .stands .table) (s .pre .stands .cells) (l .loop .i) (l .loop .marks) (l .loop .inv .3 (s .pre .stands .kind) (s .pre .stands .table) (s .pre .stands .cells)) (l .loop .queue) (c .before .before .before .before .loop-test .taken) (c .before .before .if1 .taken) u (omega arith) (omega arith)
 
 add-i : tie.Need-add-i Inv-loop μ-loop
 add-i c = search needs
@@ -52,11 +52,12 @@ loop-again c =
     let s = c .before .before .before .before .before .before .before .before .before .before .before .before .before .before in
     let l = c .before .before .before .before .before .before .before .before .before .before in
     let h = c .before .before .before .before .before .before .before .before .before .loop-test .taken in
-    let f = c .before .before .before .before .flood-rows .ensures in (
+    let e = c .before .before .before .before .flood-rows .ensures in
+    let f = e (s .pre .stands .kind) (s .pre .stands .table) (s .pre .stands .cells) in (
       omega arith,
       f .marksKept ∙ l .loop .inv .1,
       f .queueKept ∙ l .loop .inv .2,
-      λ t k. labels-flood (s .args .cells .now) (s .args .m) t k (l .loop .i) (l .loop .marks) (l .loop .inv .3 t k) h (c .before .before .before .before .before .before .before .if1 .taken) _ (f .reached refl),
+      λ kind t k. labels-flood (s .args .cells .now) (s .args .m) t k (l .loop .i) (l .loop .marks) (l .loop .inv .3 kind t k) h (c .before .before .before .before .before .before .before .if1 .taken) _ (e kind t k .reached refl),
     )
 
 add-i-2 : tie.Need-add-i-2 Inv-loop μ-loop
@@ -70,7 +71,7 @@ loop-again-2 c =
     let s = c .before .before .before .before .before .before .before in
     let l = c .before .before .before in
     let h = c .before .before .loop-test .taken in
-    (omega arith, l .loop .inv .1, l .loop .inv .2, λ t k. labels-skip (s .args .cells .now) (s .args .m) t k (l .loop .i) (l .loop .marks) (l .loop .inv .3 t k) h (c .if1 .left))
+    (omega arith, l .loop .inv .1, l .loop .inv .2, λ kind t k. labels-skip (s .args .cells .now) (s .args .m) t k (l .loop .i) (l .loop .marks) (l .loop .inv .3 kind t k) h (c .if1 .left))
 
 same-length : tie.Need-same-length Inv-loop μ-loop
 same-length c = c .before .loop .inv .1
@@ -85,7 +86,7 @@ returns c =
     let a = c .loop-test .left in
     let b = l .loop .inv .0 in
     let e : l .loop .i ≡ s .args .m = omega arith in
-    λ t k. subst (λ (i : ℕ). Labelled (s .args .cells .now) (s .args .m) t i (l .loop .marks)) e (l .loop .inv .3 t k)
+    λ kind t k. subst (λ (i : ℕ). Labelled kind (s .args .cells .now) (s .args .m) t i (l .loop .marks)) e (l .loop .inv .3 kind t k)
 
 pub mark-parts-spec : {M : Type 1} → statement M
 mark-parts-spec =

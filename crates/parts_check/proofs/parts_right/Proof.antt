@@ -25,10 +25,10 @@ firsts-agree-requires c κs = search needs
 returns : tie.Need-returns
 returns c =
     let s = c .before .before .before .before .before .before .before .before .before in
-    let k = s .pre .0 in
+    λ kind t k.
     c .firsts-agree .ensures
-    ∙ agreement (s .args .cells .now) (s .args .m) (k .table) (k .cells) (s .args .ids .now) _ (s .pre .1 ∙ cells-keys (s .args .cells .now) (s .args .m) (k .table) (k .cells))
-    (c .before .before .before .before .mark-parts .ensures (k .table) (k .cells))
+    ∙ agreement (s .args .cells .now) (s .args .m) t k (s .args .ids .now) _ (s .pre .1 ∙ cells-keys (s .args .cells .now) (s .args .m) t k)
+    (c .before .before .before .before .mark-parts .ensures kind t k)
 
 pub parts-right-spec : {M : Type 1} → statement M
 parts-right-spec =

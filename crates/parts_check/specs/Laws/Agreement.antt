@@ -9,13 +9,13 @@ use mathlib.Core.List.{List, List·Memᴰ as Mem}
 use lib.Dec.{T, T-not, eqb, eqb→eq}
 use lib.ListN.{length, getD, replicate, length-replicate, getD-replicate}
 use Rattle.model.specs.Lists.{all, keys, count}
-use Rattle.model.specs.Cells.{Cell, touch26}
+use Rattle.model.specs.Cells.{Cell, touchAt}
 use Rattle.model.specs.Groups.{Ids}
 use Rattle.model.specs.Paths.{Joined}
 use Rattle.model.specs.Laws.Tests.{same-test, eqb-of, or-cases, or-right}
 use Rattle.model.specs.Laws.Members.{all-in, all-out, count-in, count-out}
 use Rattle.model.specs.Laws.Shared.{Shared, sharedIn, shared-in, shared-out, agree-in, agree-out}
-use Rattle.model.specs.Laws.Touching.{touching-26}
+use Rattle.model.specs.Laws.Kinds.{kind-touching}
 use Rattle.neighbourhood.specs.Laws.Lines.{getD-mem, mem-getD}
 use Rattle.neighbourhood.specs.Rows.{rowCell}
 use Rattle.neighbourhood.specs.Standing.{Cells, HasTable}
@@ -69,7 +69,7 @@ id-rows m s =
     let v = rest-at idWidth m s i cellId 0 h (omega arith) in
     λ t. (record { grid = g t; z = z t; y = y t; x = x t }, v t))
 
-module _ (words : List ℕ) (m : ℕ) (t : List (Cell × ℕ)) (k : Cells words m t) (ids marks : List ℕ) (same-keys : keys (table4 idWidth m ids) ≡ keys t) (d : Labelled words m t m marks) where
+module _ {kind : ℕ} (words : List ℕ) (m : ℕ) (t : List (Cell × ℕ)) (k : Cells kind words m t) (ids marks : List ℕ) (same-keys : keys (table4 idWidth m ids) ≡ keys t) (d : Labelled kind words m t m marks) where
   abbrev rows : Ids
   rows = idsIn m ids
 
@@ -86,15 +86,15 @@ module _ (words : List ℕ) (m : ℕ) (t : List (Cell × ℕ)) (k : Cells words 
       ∙ lines-at (key-lines cellWidth m words (omega arith)) j h o
 
   -- A path of cells with an id is a path of occupied cells.
-  path-in : (i j : ℕ) → i < m → j < m → Joined touch26 (keys rows) (cellAt ids (idWidth * i)) (cellAt ids (idWidth * j)) → Linked words t i j
+  path-in : (i j : ℕ) → i < m → j < m → Joined (touchAt kind) (keys rows) (cellAt ids (idWidth * i)) (cellAt ids (idWidth * j)) → Linked kind words t i j
   path-in i j h g w =
-      subst₂ (λ (a b : Cell). Joined touch26 (keys t) a b) (row-is i h) (row-is j g)
-      (subst (λ (l : List Cell). Joined touch26 l (cellAt ids (idWidth * i)) (cellAt ids (idWidth * j))) rows-keys w)
+      subst₂ (λ (a b : Cell). Joined (touchAt kind) (keys t) a b) (row-is i h) (row-is j g)
+      (subst (λ (l : List Cell). Joined (touchAt kind) l (cellAt ids (idWidth * i)) (cellAt ids (idWidth * j))) rows-keys w)
 
-  path-out : (i j : ℕ) → i < m → j < m → Linked words t i j → Joined touch26 (keys rows) (cellAt ids (idWidth * i)) (cellAt ids (idWidth * j))
+  path-out : (i j : ℕ) → i < m → j < m → Linked kind words t i j → Joined (touchAt kind) (keys rows) (cellAt ids (idWidth * i)) (cellAt ids (idWidth * j))
   path-out i j h g w =
-      subst (λ (l : List Cell). Joined touch26 l (cellAt ids (idWidth * i)) (cellAt ids (idWidth * j))) (sym rows-keys)
-      (subst₂ (λ (a b : Cell). Joined touch26 (keys t) a b) (sym (row-is i h)) (sym (row-is j g)) w)
+      subst (λ (l : List Cell). Joined (touchAt kind) l (cellAt ids (idWidth * i)) (cellAt ids (idWidth * j))) (sym rows-keys)
+      (subst₂ (λ (a b : Cell). Joined (touchAt kind) (keys t) a b) (sym (row-is i h)) (sym (row-is j g)) w)
 
   abbrev firsts-agree : Bool
   firsts-agree = all (firstAgrees ids m marks) (count 0 m)
@@ -123,20 +123,20 @@ module _ (words : List ℕ) (m : ℕ) (t : List (Cell × ℕ)) (k : Cells words 
         let q = first-agrees f j b g e in
         (λ x. l .1 ∙ sym e ∙ q .0 (here ∙ x), λ x. sym here ∙ q .1 (e ∙ sym (l .1) ∙ x))
 
-    agree-shared : Shared touch26 rows
+    agree-shared : Shared (touchAt kind) rows
     agree-shared p q x y =
         let i = mem-lines (id-rows m ids) x in
         let j = mem-lines (id-rows m ids) y in
         let a : p .1 ≡ idAt ids (i .0) = ap (λ (z : Cell × ℕ). z .1) (i .2) in
         let b : q .1 ≡ idAt ids (j .0) = ap (λ (z : Cell × ℕ). z .1) (j .2) in
         let s = ids-marks (i .0) (j .0) (i .1) (j .1) in (
-          λ e. subst₂ (λ (z v : Cell × ℕ). Joined touch26 (keys rows) (z .0) (v .0)) (sym (i .2)) (sym (j .2))
+          λ e. subst₂ (λ (z v : Cell × ℕ). Joined (touchAt kind) (keys rows) (z .0) (v .0)) (sym (i .2)) (sym (j .2))
               (path-out (i .0) (j .0) (i .1) (j .1) (same-linked words m t k m marks (omega arith) d (i .0) (j .0) (i .1) (j .1) (s .0 (sym a ∙ e ∙ b)))),
           λ w. a ∙ s .1 (linked-same words m t k m marks (omega arith) d (i .0) (j .0) (i .1) (j .1)
-              (path-in (i .0) (j .0) (i .1) (j .1) (subst₂ (λ (z v : Cell × ℕ). Joined touch26 (keys rows) (z .0) (v .0)) (i .2) (j .2) w))) ∙ sym b,
+              (path-in (i .0) (j .0) (i .1) (j .1) (subst₂ (λ (z v : Cell × ℕ). Joined (touchAt kind) (keys rows) (z .0) (v .0)) (i .2) (j .2) w))) ∙ sym b,
         )
 
-  shared-agree : Shared touch26 rows → T firsts-agree
+  shared-agree : Shared (touchAt kind) rows → T firsts-agree
   shared-agree s =
       all-in (firstAgrees ids m marks) (count 0 m) (λ i x. let h : i < m = let r = count-out 0 m x in let b = r .1 in omega arith in
       or-right (not (eqb (getD marks i 0) (i + 1))) (all (agreeAt ids marks i) (count 0 m))
@@ -147,11 +147,11 @@ module _ (words : List ℕ) (m : ℕ) (t : List (Cell × ℕ)) (k : Cells words 
       (λ u. eqb-of (idAt ids i) (idAt ids j) (q .1 (path-out i j h g (same-linked words m t k m marks (omega arith) d i j h g (eqb→eq (getD marks i 0) (getD marks j 0) u))))))))
 
   -- Whether the first rows agree with all rows is whether ids are shared exactly by joined cells.
-  pub agreement : firsts-agree ≡ sharedIn touch26 rows
+  pub agreement : firsts-agree ≡ sharedIn (touchAt kind) rows
   agreement =
-      same-test firsts-agree (sharedIn touch26 rows)
-      (λ u. shared-in touch26 (touching-26 .flip) rows (agree-shared u))
-      (λ u. shared-agree (shared-out touch26 (touching-26 .flip) rows u))
+      same-test firsts-agree (sharedIn (touchAt kind) rows)
+      (λ u. shared-in (touchAt kind) (kind-touching kind .flip) rows (agree-shared u))
+      (λ u. shared-agree (shared-out (touchAt kind) (kind-touching kind .flip) rows u))
 
 -- Marks and a queue that are not set.
 pub unmarked : (words : List ℕ) (n len : ℕ) → HasTable words n → n ≤ len → Partable words n (replicate len 0) (replicate len 0)

@@ -81,7 +81,7 @@ next-row-requires c κs =
       cells-table (s .args .cells .now) (s .args .n) (s .pre .stands .table) (s .pre .stands .cells),
       s .pre .there,
       h,
-      sym (row-bit (s .args .cells .now) (s .args .n) (s .pre .stands .table) (s .pre .stands .cells) (s .args .i) (s .pre .there) (l .loop .k) h) ∙ is-set c,
+      (s .pre .stands .kind, sym (row-bit (s .args .cells .now) (s .args .n) (s .pre .stands .table) (s .pre .stands .cells) (s .args .i) (s .pre .there) (l .loop .k) h) ∙ is-set c),
     )
 
 mul-if2 : tie.Need-mul-if2 Inv-loop μ-loop

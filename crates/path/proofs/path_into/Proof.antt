@@ -117,7 +117,7 @@ returns c =
     let l = c .before in
     let s = start l in
     let f = filling-end (s .args .answer .now) (all l) (l .loop .k) (l .loop .answer) (l .loop .inv .2) (omega (arith, long l, c .loop-test .left)) in
-    λ t k to g w.
+    λ kind t k to g w.
     let e = shown-cells (s .args .cells .now) (s .args .n) t k to g (s .args .marks .now) w (s .args .from) (s .pre .1 .starts) in
     record { few = w .few (s .args .from) (s .pre .1 .starts); number = sym (ap length e ∙ long l); written = f ∙ ap (filled (s .args .answer .now)) (sym e) }
 

@@ -23,7 +23,7 @@ path-into-requires : tie.Need-path-into-requires
 path-into-requires c κs =
     let w = c .before .before .before .before in
     let s = w .before .before .before .before .before in
-    (s .args .to, walk-asks (s .args .cells .now) (s .args .n) (s .args .to) (s .pre .0) (s .pre .2) mostCells (s .pre .3) _ _ _ (w .flood-rows .ensures) (s .args .from) (s .args .answer .now) (s .pre .1) (s .pre .4))
+    (s .args .to, walk-asks (s .args .cells .now) (s .args .n) (s .args .to) (s .pre .0) (s .pre .2) mostCells (s .pre .3) _ _ _ (w .flood-rows .ensures (s .pre .0 .kind) (s .pre .0 .table) (s .pre .0 .cells)) (s .args .from) (s .args .answer .now) (s .pre .1) (s .pre .4))
 
 same-length : tie.Need-same-length
 same-length c = search needs
@@ -33,7 +33,7 @@ returns c =
     let p = c .before .before in
     let w = p .before .before .before .before .before in
     let s = w .before .before .before .before .before in
-    λ t k. p .path-into .ensures t k (s .args .to) (s .pre .2) (wave-levels (s .args .cells .now) (s .args .n) (s .args .to) (s .pre .0) (s .pre .2) mostCells (s .pre .3) _ _ _ (w .flood-rows .ensures))
+    λ kind t k. p .path-into .ensures kind t k (s .args .to) (s .pre .2) (wave-levels (s .args .cells .now) (s .args .n) (s .args .to) (s .pre .0) (s .pre .2) mostCells (s .pre .3) _ _ _ (w .flood-rows .ensures (s .pre .0 .kind) (s .pre .0 .table) (s .pre .0 .cells)))
 
 pub path-rows-spec : {M : Type 1} → statement M
 path-rows-spec =

@@ -10,14 +10,14 @@ use mathlib.Core.Option.{Option, none, some}
 use lib.Dec.{eqb→eq}
 use lib.ListN.{length, getD}
 use Rattle.model.specs.Lists.{keep, each, keys, has}
-use Rattle.model.specs.Cells.{Cell, same, touch26}
+use Rattle.model.specs.Cells.{Cell, same, touchAt}
 use Rattle.model.specs.Masks.{touching}
 use Rattle.model.specs.Shortest.{firstOr, stepsFrom, walk, stepNumbers, walkFirst, shownPath}
 use Rattle.model.specs.Laws.Tests.{same-test, eqb-of}
 use Rattle.model.specs.Laws.Orders.{cells}
 use Rattle.model.specs.Laws.Members.{keep-in, keep-out, keep-ext, keep-each, each-length, has-of, of-has, count-in}
 use Rattle.model.specs.Laws.Sorted.{keep-asc, asc-equal}
-use Rattle.model.specs.Laws.Touching.{touching-26}
+use Rattle.model.specs.Laws.Kinds.{kind-touching}
 use Rattle.model.specs.Laws.Steps.{steps-occupied, steps-asc, walk-length, joined-steps, away-number, away-once, StepsAway}
 use Rattle.model.specs.Theorems.PathExact.{path-none}
 use Rattle.neighbourhood.specs.Rows.{rowCell, onward}
@@ -93,7 +93,7 @@ module _ (words : List ℕ) (n : ℕ) (marks : List ℕ) where
   unfolding rowAfter
   after-more k i = let e : suc k ≡ k + 1 = omega arith in ap (λ (m : ℕ). rowAfter words n marks m i) e
 
-module _ (words : List ℕ) (n : ℕ) (t : List (Cell × ℕ)) (k : Cells words n t) where
+module _ {kind : ℕ} (words : List ℕ) (n : ℕ) (t : List (Cell × ℕ)) (k : Cells kind words n t) where
   -- The next row is there.
   pub next-there : (marks : List ℕ) (i : ℕ) → i < n → nextRow words n marks i < n
   unfolding nextRow
@@ -109,7 +109,7 @@ module _ (words : List ℕ) (n : ℕ) (t : List (Cell × ℕ)) (k : Cells words 
   module _ (b : ℕ) (g : b < n) (marks : List ℕ) (w : Levels words n b marks) where
     -- The occupied cells from which d steps lead to row b.
     abbrev from : ℕ → List Cell
-    from d = stepsFrom touch26 (keys t) (rowCell words b) d
+    from d = stepsFrom (touchAt kind) (keys t) (rowCell words b) d
 
     -- From a row with a mark above one the next row has one less.
     pub next-mark : (d i : ℕ) → i < n → getD marks i 0 ≡ suc (suc d) → getD marks (nextRow words n marks i) 0 ≡ suc d
@@ -136,7 +136,7 @@ module _ (words : List ℕ) (n : ℕ) (t : List (Cell × ℕ)) (k : Cells words 
       far : (j : ℕ) → Mem j (onward words n i) → 0 < getD marks j 0 → getD marks i 0 ≤ suc (getD marks j 0)
       far j m p =
           let u = onward-under words n t k i h j m in
-          w .close j i u (touch-onward words n t k j i u h (touching-26 .flip (rowCell words i) (rowCell words j) (onward-touch words n t k i j h m))) (λ z. omega arith) .1
+          w .close j i u (touch-onward words n t k j i u h (kind-touching kind .flip (rowCell words i) (rowCell words j) (onward-touch words n t k i j h m))) (λ z. omega arith) .1
 
       -- Of the rows that row i leads to, the nearer ones are those from which d steps lead to row b.
       nearer-steps : (j : ℕ) → Mem j (onward words n i) → has same (from d) (rowCell words j) ≡ isNearer marks i j
@@ -147,50 +147,50 @@ module _ (words : List ℕ) (n : ℕ) (t : List (Cell × ℕ)) (k : Cells words 
           (λ a. let q : getD marks j 0 ≡ getD marks i 0 - 1 = eqb→eq (getD marks j 0) (getD marks i 0 - 1) a in has-of cells (mark-steps words n t k b g marks w d j u (omega arith)))
 
       -- The cells that the path may go on to are the cells of those rows.
-      choice-cells : keep (touch26 (rowCell words i)) (from d) ≡ each (rowCell words) (keep (isNearer marks i) (onward words n i))
+      choice-cells : keep (touchAt kind (rowCell words i)) (from d) ≡ each (rowCell words) (keep (isNearer marks i) (onward words n i))
       choice-cells =
-          asc-equal cells (keep (touch26 (rowCell words i)) (from d)) (keep (has same (from d)) (touching touch26 (keys t) (rowCell words i)))
-          (keep-asc (touch26 (rowCell words i)) (from d) (steps-asc touch26 (keys t) (rowCell words b) (k .asc) d))
-          (keep-asc (has same (from d)) (touching touch26 (keys t) (rowCell words i)) (keep-asc (touch26 (rowCell words i)) (keys t) (k .asc)))
-          (λ c m. let q = keep-out (touch26 (rowCell words i)) (from d) m in keep-in (has same (from d)) (keep-in (touch26 (rowCell words i)) (steps-occupied touch26 (keys t) (rowCell words b) d (q .0)) (q .1)) (has-of cells (q .0)))
-          (λ c m. let q = keep-out (has same (from d)) (touching touch26 (keys t) (rowCell words i)) m in keep-in (touch26 (rowCell words i)) (of-has cells (from d) (q .1)) (keep-out (touch26 (rowCell words i)) (keys t) (q .0) .1))
+          asc-equal cells (keep (touchAt kind (rowCell words i)) (from d)) (keep (has same (from d)) (touching (touchAt kind) (keys t) (rowCell words i)))
+          (keep-asc (touchAt kind (rowCell words i)) (from d) (steps-asc (touchAt kind) (keys t) (rowCell words b) (k .asc) d))
+          (keep-asc (has same (from d)) (touching (touchAt kind) (keys t) (rowCell words i)) (keep-asc (touchAt kind (rowCell words i)) (keys t) (k .asc)))
+          (λ c m. let q = keep-out (touchAt kind (rowCell words i)) (from d) m in keep-in (has same (from d)) (keep-in (touchAt kind (rowCell words i)) (steps-occupied (touchAt kind) (keys t) (rowCell words b) d (q .0)) (q .1)) (has-of cells (q .0)))
+          (λ c m. let q = keep-out (has same (from d)) (touching (touchAt kind) (keys t) (rowCell words i)) m in keep-in (touchAt kind (rowCell words i)) (of-has cells (from d) (q .1)) (keep-out (touchAt kind (rowCell words i)) (keys t) (q .0) .1))
           ∙ ap (keep (has same (from d))) (sym (onward-cells words n t k i h))
           ∙ keep-each (rowCell words) (has same (from d)) (onward words n i)
           ∙ ap (each (rowCell words)) (keep-ext (λ j. has same (from d) (rowCell words j)) (isNearer marks i) (onward words n i) nearer-steps)
 
       -- So the path goes on to the cell of the next row.
-      next-cell : firstOr (rowCell words i) (keep (touch26 (rowCell words i)) (from d)) ≡ rowCell words (nextRow words n marks i)
+      next-cell : firstOr (rowCell words i) (keep (touchAt kind (rowCell words i)) (from d)) ≡ rowCell words (nextRow words n marks i)
       unfolding nextRow
       next-cell = ap (firstOr (rowCell words i)) choice-cells ∙ sym (first-cell words i (keep (isNearer marks i) (onward words n i)))
 
     -- The cells of the walk are those of the path.
-    walk-cells : (d i : ℕ) → i < n → getD marks i 0 ≡ suc d → walk touch26 (keys t) (rowCell words b) d (rowCell words i) ≡ each (rowCell words) (walkRows words n marks (suc d) i)
+    walk-cells : (d i : ℕ) → i < n → getD marks i 0 ≡ suc d → walk (touchAt kind) (keys t) (rowCell words b) d (rowCell words i) ≡ each (rowCell words) (walkRows words n marks (suc d) i)
     unfolding walkRows
     walk-cells zero i h e = refl
     walk-cells (suc d) i h e =
-        ap (λ (c : Cell). rowCell words i ∷ walk touch26 (keys t) (rowCell words b) d c) (next-cell d i h e)
+        ap (λ (c : Cell). rowCell words i ∷ walk (touchAt kind) (keys t) (rowCell words b) d c) (next-cell d i h e)
         ∙ ap (λ (l : List Cell). rowCell words i ∷ l) (walk-cells d (nextRow words n marks i) (next-there marks i h) (next-mark d i h e))
 
     -- From an unmarked row no path is shown.
-    pub shown-none : (a : ℕ) → a < n → getD marks a 0 ≡ 0 → shownRows words t a b ≡ none
+    pub shown-none : (a : ℕ) → a < n → getD marks a 0 ≡ 0 → shownRows kind words t a b ≡ none
     shown-none a h e =
-        path-none touch26 (keys t) (rowCell words a) (rowCell words b) .1
-        (λ u. let r = joined-steps touch26 (keys t) (rowCell words b) u in omega (arith, steps-mark words n t k b g marks w (r .0) a h (r .2) .0))
+        path-none (touchAt kind) (keys t) (rowCell words a) (rowCell words b) .1
+        (λ u. let r = joined-steps (touchAt kind) (keys t) (rowCell words b) u in omega (arith, steps-mark words n t k b g marks w (r .0) a h (r .2) .0))
 
     -- From a marked row the walk is shown.
-    pub shown-walk : (d a : ℕ) → a < n → getD marks a 0 ≡ suc d → shownRows words t a b ≡ some (walkCells words n marks a)
+    pub shown-walk : (d a : ℕ) → a < n → getD marks a 0 ≡ suc d → shownRows kind words t a b ≡ some (walkCells words n marks a)
     unfolding walkCells
-    shown-walk d a h e = go (stepNumbers touch26 (keys t) (rowCell words b) (rowCell words a)) refl
+    shown-walk d a h e = go (stepNumbers (touchAt kind) (keys t) (rowCell words b) (rowCell words a)) refl
       where
-        away : StepsAway touch26 (keys t) (rowCell words b) d (rowCell words a)
+        away : StepsAway (touchAt kind) (keys t) (rowCell words b) d (rowCell words a)
         away = mark-away words n t k b g marks w d a h e
 
-        go : (l : List ℕ) → stepNumbers touch26 (keys t) (rowCell words b) (rowCell words a) ≡ l → walkFirst touch26 (keys t) (rowCell words b) (rowCell words a) l ≡ some (each (rowCell words) (walkRows words n marks (getD marks a 0) a))
+        go : (l : List ℕ) → stepNumbers (touchAt kind) (keys t) (rowCell words b) (rowCell words a) ≡ l → walkFirst (touchAt kind) (keys t) (rowCell words b) (rowCell words a) l ≡ some (each (rowCell words) (walkRows words n marks (getD marks a 0) a))
         go [] f =
             let s : length (keys t) ≡ length t = each-length (λ (p : Cell × ℕ). p .0) t in
             absurd (mem-nil (subst (λ l. Mem d l) f (keep-in (λ m. has same (from m) (rowCell words a)) (count-in 0 (length (keys t)) (omega arith) (omega (arith, w .few a h, k .number))) (has-of cells (away .steps)))))
         go (m ∷ ms) f =
-            ap (λ j. some (walk touch26 (keys t) (rowCell words b) j (rowCell words a))) (away-once touch26 (keys t) (rowCell words b) (away-number touch26 (keys t) (rowCell words b) f) away)
+            ap (λ j. some (walk (touchAt kind) (keys t) (rowCell words b) j (rowCell words a))) (away-once (touchAt kind) (keys t) (rowCell words b) (away-number (touchAt kind) (keys t) (rowCell words b) f) away)
             ∙ ap some (walk-cells d a h e ∙ ap (λ j. each (rowCell words) (walkRows words n marks j a)) (sym e))
 
     -- From an unmarked row the walk has no cell.
@@ -199,9 +199,9 @@ module _ (words : List ℕ) (n : ℕ) (t : List (Cell × ℕ)) (k : Cells words 
     walk-empty a e = ap (λ m. each (rowCell words) (walkRows words n marks m a)) (sym e)
 
     -- The cells of the shown path are those of the walk.
-    pub shown-cells : (a : ℕ) → a < n → cellsOf (shownRows words t a b) ≡ walkCells words n marks a
+    pub shown-cells : (a : ℕ) → a < n → cellsOf (shownRows kind words t a b) ≡ walkCells words n marks a
     shown-cells a h = go (getD marks a 0) refl
       where
-        go : (m : ℕ) → getD marks a 0 ≡ m → cellsOf (shownRows words t a b) ≡ walkCells words n marks a
+        go : (m : ℕ) → getD marks a 0 ≡ m → cellsOf (shownRows kind words t a b) ≡ walkCells words n marks a
         go zero e = ap cellsOf (shown-none a h e) ∙ walk-empty a e
         go (suc d) e = ap cellsOf (shown-walk d a h e)

@@ -18,6 +18,7 @@ module _ (words : List ℕ) (n to : ℕ) (s : HasTable words n) (h : to < n) (m 
   pub wave-asks : n ≤ mostCells → Floodable words n to 1 1 (replicate m 0) (replicate m 0)
   wave-asks f =
       record {
+        kind = s .kind;
         table = s .table;
         cells = s .cells;
         seeded = h;
@@ -28,7 +29,7 @@ module _ (words : List ℕ) (n to : ℕ) (s : HasTable words n) (h : to < n) (m 
         queueFits = omega (arith, length-replicate {A = ℕ} m 0);
       }
 
-  module _ (r : ℕ) (marks queue : List ℕ) (w : Flooded words n to 1 1 (replicate m 0) (replicate m 0) r marks queue) where
+  module _ {kind : ℕ} (r : ℕ) (marks queue : List ℕ) (w : Flooded kind words n to 1 1 (replicate m 0) (replicate m 0) r marks queue) where
     -- It leaves the distances.
     pub wave-levels : Levels words n to marks
     wave-levels = w .levels refl refl clear

@@ -5,6 +5,7 @@ use mathlib.Core.Path.{_≡_, refl, sym, _∙_}
 use lib.ListN.{length, replicate, length-replicate}
 use Rattle.model.specs.Occupancy.{occupied, startBatch}
 use Rattle.layout.specs.State.{decode, nextId}
+use Rattle.layout.specs.Laws.Cut.{header-fits}
 use Rattle.batch.specs.Words.{batchOf}
 use Rattle.updating.specs.Steps.{entitySpace, cellSpace, crowdSpace, netSpace}
 use Rattle.updating.specs.Laws.Steps.{zeros-blank, entities-spare, cells-spare, net-spare, map-ready}
@@ -17,6 +18,9 @@ use Rattle.updating.proofs.apply_batch.Tie as tie
 zeros : (n : ℕ) → length (replicate {A = ℕ} n 0) ≡ n
 zeros n = length-replicate {A = ℕ} n 0
 
+slice-read-kind : tie.Need-slice-read-kind
+slice-read-kind c = omega (arith, header-fits (c .before .before .before .args .state .now) (c .before .before .before .pre .0 .long))
+
 slice-aggregate-open-map : tie.Need-slice-aggregate-open-map
 slice-aggregate-open-map c = refl
 
@@ -28,7 +32,7 @@ slice-aggregate-open-map-3 c = refl
 
 open-map-requires : tie.Need-open-map-requires
 open-map-requires c κs =
-    let k = c .before .before .before .before .before .before .pre .0 in
+    let k = c .before .before .before .before .before .before .before .pre .0 in
     (k, zeros-blank entitySpace, omega (arith, entities-spare, zeros entitySpace), zeros-blank cellSpace, omega (arith, cells-spare, zeros cellSpace), zeros-blank crowdSpace, omega (arith, zeros crowdSpace))
 
 slice-aggregate-play-batch : tie.Need-slice-aggregate-play-batch
@@ -48,7 +52,7 @@ slice-aggregate-play-batch-5 c = refl
 
 play-batch-requires : tie.Need-play-batch-requires
 play-batch-requires c κs =
-    let s = c .before .before .before .before .before .before .before .before .before .before .before .before .before .before .before in
+    let s = c .before .before .before .before .before .before .before .before .before .before .before .before .before .before .before .before in
     let w = s .args .state .now in
     let q = c .before .before .before .before .before .before .before .before .open-map in
     let d = map-ready w (s .pre .0) (q .last .1 .0) (q .last .1 .1 .0) (q .last .1 .1 .1 .0) (replicate netSpace 0) (replicate netSpace 0) (q .result) (q .ensures) (q .kept .1 .0 ∙ zeros entitySpace) (q .kept .1 .1 .0 ∙ zeros cellSpace) (q .kept .1 .1 .1 .0 ∙ zeros crowdSpace) (zeros-blank netSpace) (zeros netSpace) (zeros-blank netSpace) (zeros netSpace) in
@@ -59,7 +63,7 @@ same-length c = search needs
 
 returns : tie.Need-returns
 returns c =
-    let s = c .before .before .before .before .before .before .before .before .before .before .before .before .before .before .before .before .before .before .before .before .before .before in
+    let s = c .before .before .before .before .before .before .before .before .before .before .before .before .before .before .before .before .before .before .before .before .before .before .before in
     let w = s .args .state .now in
     let q = c .before .before .before .before .before .before .before .before .before .before .before .before .before .before .before .open-map in
     let d = map-ready w (s .pre .0) (q .last .1 .0) (q .last .1 .1 .0) (q .last .1 .1 .1 .0) (replicate netSpace 0) (replicate netSpace 0) (q .result) (q .ensures) (q .kept .1 .0 ∙ zeros entitySpace) (q .kept .1 .1 .0 ∙ zeros cellSpace) (q .kept .1 .1 .1 .0 ∙ zeros crowdSpace) (zeros-blank netSpace) (zeros netSpace) (zeros-blank netSpace) (zeros netSpace) in
@@ -85,7 +89,7 @@ slice-aggregate-finish-5 c = sym (c .before .before .before .before .before .bef
 
 finish-requires : tie.Need-finish-requires
 finish-requires c κs =
-    let s = c .before .before .before .before .before .before .before .before .before .before .before .before .before .before .before .before .before .before .before .before .before .before .before .before .before .before .before .before .before in
+    let s = c .before .before .before .before .before .before .before .before .before .before .before .before .before .before .before .before .before .before .before .before .before .before .before .before .before .before .before .before .before .before in
     let w = s .args .state .now in
     let q = c .before .before .before .before .before .before .before .before .before .before .before .before .before .before .before .before .before .before .before .before .before .before .open-map in
     let d = map-ready w (s .pre .0) (q .last .1 .0) (q .last .1 .1 .0) (q .last .1 .1 .1 .0) (replicate netSpace 0) (replicate netSpace 0) (q .result) (q .ensures) (q .kept .1 .0 ∙ zeros entitySpace) (q .kept .1 .1 .0 ∙ zeros cellSpace) (q .kept .1 .1 .1 .0 ∙ zeros crowdSpace) (zeros-blank netSpace) (zeros netSpace) (zeros-blank netSpace) (zeros netSpace) in
@@ -99,6 +103,7 @@ finish-requires c κs =
       omega (arith, cells-spare, p .kept .1 .0, q .kept .1 .1 .0, zeros cellSpace),
       omega (arith, net-spare, p .kept .1 .1 .1 .0, zeros netSpace),
       omega (arith, net-spare, p .kept .1 .1 .1 .1 .0, zeros netSpace),
+      refl,
     )
 
 same-length-2 : tie.Need-same-length-2
@@ -106,7 +111,7 @@ same-length-2 c = search needs
 
 returns-2 : tie.Need-returns-2
 returns-2 c =
-    let s = c .before .before .before .before .before .before .before .before .before .before .before .before .before .before .before .before .before .before .before .before .before .before .before .before .before .before .before .before .before .before .before .before in
+    let s = c .before .before .before .before .before .before .before .before .before .before .before .before .before .before .before .before .before .before .before .before .before .before .before .before .before .before .before .before .before .before .before .before .before in
     let w = s .args .state .now in
     let q = c .before .before .before .before .before .before .before .before .before .before .before .before .before .before .before .before .before .before .before .before .before .before .before .before .before .open-map in
     let d = map-ready w (s .pre .0) (q .last .1 .0) (q .last .1 .1 .0) (q .last .1 .1 .1 .0) (replicate netSpace 0) (replicate netSpace 0) (q .result) (q .ensures) (q .kept .1 .0 ∙ zeros entitySpace) (q .kept .1 .1 .0 ∙ zeros cellSpace) (q .kept .1 .1 .1 .0 ∙ zeros crowdSpace) (zeros-blank netSpace) (zeros netSpace) (zeros-blank netSpace) (zeros netSpace) in
@@ -121,6 +126,7 @@ pub apply-batch-spec : {M : Type 1} → statement M
 apply-batch-spec =
     tie.close
     (tie.spec
+    slice-read-kind
     slice-aggregate-open-map
     slice-aggregate-open-map-2
     slice-aggregate-open-map-3

@@ -3,9 +3,8 @@ use Prim.Native.Nat.{ℕ, _≤_}
 use native.Mathlib.Omega.{arith}
 use mathlib.Core.Path.{_≡_, refl, sym, _∙_, ap}
 use lib.ListN.{length, replicate, length-replicate}
-use Rattle.model.specs.Cells.{touch26}
 use Rattle.model.specs.Occupancy.{playBatch}
-use Rattle.model.specs.Update.{mostCells}
+use Rattle.model.specs.Update.{mostCells, touchOf}
 use Rattle.layout.specs.State.{decode}
 use Rattle.layout.specs.Laws.Cut.{whole}
 use Rattle.writing.specs.Parts.{frontWords}
@@ -46,9 +45,9 @@ slice-aggregate-regroup-state-3 c = refl
 regroup-state-requires : tie.Need-regroup-state-requires
 regroup-state-requires c κs =
     let s = c .before .before .before .before .before .before .before .before .before .before .before .before .before in
-    let o = playBatch touch26 (s .pre .0) (decode (s .args .state .now) .occupancy) in
+    let o = playBatch (touchOf (decode (s .args .state .now))) (s .pre .0) (decode (s .args .state .now) .occupancy) in
     let k = c .before .before .before .before .before .counts-of in
-    (o .newlyOccupied, o .newlyEmptied, o .entities, finish-regroups (s .pre .1) (replicate idSpace 0) (k .last .1 .1 .0) (replicate groupSpace 0) (zeros-blank idSpace) ids-zeros (k .ensures) (zeros-blank groupSpace) groups-zeros)
+    (o .newlyOccupied, o .newlyEmptied, o .entities, finish-regroups (s .pre .1) (replicate idSpace 0) (k .last .1 .1 .0) (replicate groupSpace 0) (zeros-blank idSpace) ids-zeros (k .ensures) (zeros-blank groupSpace) groups-zeros (s .args .kind) (s .pre .6))
 
 header-requires : tie.Need-header-requires
 header-requires c κs = search needs
@@ -73,8 +72,8 @@ write-back-requires c κs =
     let s = c .before .before .before .before .before .before .before .before .before .before .before .before .before .before .before .before .before .before .before .before .before .before .before .before .before in
     let r = c .before .before .before .before .before .before .before .before .before .before .before .regroup-state in (
       omega (arith, whole (s .args .state .now) (s .pre .1 .known .long), c .before .before .before .before .before .write-front .kept .0),
-      omega (arith, ids-spare, r .kept .1 .0, ids-zeros),
-      omega (arith, groups-spare, r .kept .1 .1 .1 .0, groups-zeros),
+      omega (arith, ids-spare, r .kept .1 .1 .0, ids-zeros),
+      omega (arith, groups-spare, r .kept .1 .1 .1 .1 .0, groups-zeros),
     )
 
 same-length : tie.Need-same-length
@@ -90,10 +89,10 @@ returns c =
     let z = c .before .before .write-back in
     let k = c .before .before .before .before .before .before .before .before .before .before .before .before .before .before .before .before .before .before .before .before .counts-of in
     λ b f.
-    let o = playBatch touch26 b (decode (a .state .now) .occupancy) in
-    finish-written f (r .last .1 .0) (r .last .1 .1 .1 .0) (r .result)
-    (r .ensures (o .newlyOccupied) (o .newlyEmptied) (o .entities) (finish-regroups f (replicate idSpace 0) (k .last .1 .1 .0) (replicate groupSpace 0) (zeros-blank idSpace) ids-zeros (k .ensures) (zeros-blank groupSpace) groups-zeros))
-    (p .2) (p .3) (p .4) (p .5) (omega (arith, ids-spare, r .kept .1 .0, ids-zeros)) (omega (arith, groups-spare, r .kept .1 .1 .1 .0, groups-zeros))
+    let o = playBatch (touchOf (decode (a .state .now))) b (decode (a .state .now) .occupancy) in
+    finish-written f (r .last .1 .1 .0) (r .last .1 .1 .1 .1 .0) (r .result) (a .kind) (p .6)
+    (r .ensures (o .newlyOccupied) (o .newlyEmptied) (o .entities) (finish-regroups f (replicate idSpace 0) (k .last .1 .1 .0) (replicate groupSpace 0) (zeros-blank idSpace) ids-zeros (k .ensures) (zeros-blank groupSpace) groups-zeros (a .kind) (p .6)))
+    (p .2) (p .3) (p .4) (p .5) (omega (arith, ids-spare, r .kept .1 .1 .0, ids-zeros)) (omega (arith, groups-spare, r .kept .1 .1 .1 .1 .0, groups-zeros))
     (h .result) (z .last .0) (h .ensures) (z .ensures (a .state .now) (frontWords (h .result) (a .ents .now) (a .cells .now) (a .occ .now) (a .emp .now)) (c .before .before .before .before .before .before .before .before .write-front .ensures))
 
 pub finish-spec : {M : Type 1} → statement M

@@ -6,13 +6,15 @@ use mathlib.Core.List.{List, _++_, List·Memᴰ as Mem}
 use lib.Dec.{T}
 use lib.ListN.{length, drop, take-append-drop}
 use Rattle.model.specs.Lists.{values}
-use Rattle.model.specs.Cells.{Cell, cellInRange, touch26}
+use Rattle.model.specs.Cells.{Cell, cellInRange}
 use Rattle.model.specs.Occupancy.{occupied}
-use Rattle.model.specs.Update.{State}
+use Rattle.model.specs.Update.{State, touchOf}
+use Rattle.model.specs.Consistent.{kindKnown}
 use Rattle.model.specs.Laws.Orders.{cells}
 use Rattle.model.specs.Laws.Sorted.{ascending-out}
-use Rattle.model.specs.Laws.Touching.{touching-26}
+use Rattle.model.specs.Laws.Tests.{and-fst, and-snd, and-both}
 use Rattle.model.specs.Laws.Consistency.{Ok, ok-in, ok-out}
+use Rattle.model.specs.Theorems.Kinds.{touching-of}
 use Rattle.layout.specs.Rows.{entitiesImage, cellsImage, netImage, idsImage, groupsImage}
 use Rattle.layout.specs.State.{entitiesLen, cellsLen, netLen, idsLen, groupsLen, stateLen, decode}
 use Rattle.layout.specs.Points.{longEnough, consistentWords}
@@ -33,7 +35,8 @@ known w e l =
       long = l;
       stands = subst (BeginsWith (decode w)) (ap (λ (v : List ℕ). v ++ drop stateLen w) (sym (c .1)) ∙ take-append-drop stateLen w) (image-stands (decode w) f (drop stateLen w));
       fits = f;
-      ok = ok-out touch26 (touching-26 .flip) (decode w) (c .0);
+      kind-known = and-fst (kindKnown (decode w)) _ (c .0);
+      ok = ok-out (touchOf (decode w)) (touching-of (decode w) .flip) (decode w) (and-snd (kindKnown (decode w)) _ (c .0));
     }
 
 module _ (w : List ℕ) (k : Known w) where
@@ -62,6 +65,6 @@ module _ (s : State) (f : Fits s) where
   pub groups-long : length (groupsImage groupsLen (s .records)) ≡ groupsLen
   groups-long = groups-laws .long groupsLen (s .records) (λ a m. tt) (groups-room (length (s .records)) (f .groups))
 
--- A state of which all facts hold fits.
-pub ok-fits : (s : State) → Ok touch26 s → Fits s
-ok-fits s ok = consistent-fits s (ok-in touch26 (touching-26 .flip) s ok)
+-- A state of a known kind of which all facts hold fits.
+pub ok-fits : (s : State) → T (kindKnown s) → Ok (touchOf s) s → Fits s
+ok-fits s t ok = consistent-fits s (and-both (kindKnown s) _ t (ok-in (touchOf s) (touching-of s .flip) s ok))

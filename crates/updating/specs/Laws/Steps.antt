@@ -2,27 +2,28 @@
 use Prim.Native.Nat.{ℕ, _*_, _≤_, _<_}
 use native.Mathlib.Omega.{arith}
 use mathlib.Core.Path.{_≡_, refl, sym, ap, _∙_, subst}
+use mathlib.Core.Bool.{Bool}
 use mathlib.Core.List.{List, List·Memᴰ as Mem, List·Memᴰ·not-nil as mem-nil}
 use lib.ListN.{length, take, replicate, length-replicate}
 use Rattle.model.specs.Lists.{keys, values}
-use Rattle.model.specs.Cells.{Cell, below, touch26}
+use Rattle.model.specs.Cells.{Cell, below}
 use Rattle.model.specs.Occupancy.{Occupancy, Batch, occupied, startBatch, playBatch}
 use Rattle.model.specs.Groups.{regroup}
-use Rattle.model.specs.Update.{State, mostCells, accepted}
+use Rattle.model.specs.Update.{State, mostCells, touchOf, acceptedBy, accepted}
 use Rattle.model.specs.Laws.Orders.{cells}
 use Rattle.model.specs.Laws.Minus.{minus-self}
 use Rattle.model.specs.Laws.Sorted.{Asc, nil}
 use Rattle.model.specs.Laws.Tables.{keys-length}
-use Rattle.model.specs.Laws.Touching.{touching-26}
 use Rattle.model.specs.Laws.Occupied.{Sound, start-sound, occupied-asc}
 use Rattle.model.specs.Laws.Accepted.{Accepts, accepts, update-accepted}
 use Rattle.model.specs.Laws.Consistency.{Ok, ok-in}
 use Rattle.model.specs.Theorems.StaysConsistent.{accepted-ok}
 use Rattle.model.specs.Theorems.UpdateIds.{next-fits}
+use Rattle.model.specs.Theorems.Kinds.{touching-of}
 use Rattle.table.specs.Moves.{over}
 use Rattle.layout.specs.Widths.{crowdWidth}
 use Rattle.layout.specs.Rows.{entitiesImage, cellsImage, idsImage, entitiesIn, idsIn}
-use Rattle.layout.specs.State.{entitiesLen, cellsLen, netLen, idsLen, groupsLen, decode, entityWords, cellWords, idWords, cellCount, idCount, nextId}
+use Rattle.layout.specs.State.{entitiesLen, cellsLen, netLen, idsLen, groupsLen, decode, entityWords, cellWords, idWords, cellCount, idCount, nextId, kindOf}
 use Rattle.layout.specs.Laws.Images.{net-laws, ids-laws}
 use Rattle.layout.specs.Laws.Lengths.{ids-room}
 use Rattle.map.specs.declared.Counts.{Counts}
@@ -85,8 +86,8 @@ module _ (w : List ℕ) (k : Known w) (zeros : List ℕ) (z : Blank zeros) (row 
       part-loaded ids-extend (decode w .groups .ids) idsLen (ids-long (decode w) (k .fits)) zeros z h row (q ∙ k .stands .id-words) s e l
 
 -- The crowd has a row for each occupied cell.
-crowd-length : (o : Occupancy) → Sound touch26 o → length (crowdOf o) ≡ length (occupied o)
-crowd-length o ok = sym (keys-length (crowdOf o)) ∙ ap length (crowd-keys touch26 o ok)
+crowd-length : (touch : Cell → Cell → Bool) (o : Occupancy) → Sound touch o → length (crowdOf o) ≡ length (occupied o)
+crowd-length touch o ok = sym (keys-length (crowdOf o)) ∙ ap length (crowd-keys touch o ok)
 
 module _ (w : List ℕ) (k : Known w) where
   abbrev o : Occupancy
@@ -95,11 +96,11 @@ module _ (w : List ℕ) (k : Known w) where
   module _ (n : ℕ) (c : n ≡ length (o .entities)) (ents : List ℕ) (e : ents ≡ entitiesImage (length ents) (o .entities)) where
     -- What stands in each cell is the crowd.
     crowd-is : tally (entitiesIn n ents) ≡ crowdOf o
-    crowd-is = crowd-of-words touch26 o (k .ok .sound) n ents e c
+    crowd-is = crowd-of-words (touchOf (decode w)) o (k .ok .sound) n ents e c
 
     -- There is room for the crowd.
     pub crowd-room : (m : ℕ) → crowdWidth * mostCells ≤ m → crowdWidth * length (tally (entitiesIn n ents)) ≤ m
-    crowd-room m h = omega (arith, h, ap length crowd-is, crowd-length o (k .ok .sound), k .ok .few-cells)
+    crowd-room m h = omega (arith, h, ap length crowd-is, crowd-length (touchOf (decode w)) o (k .ok .sound), k .ok .few-cells)
 
     -- The map is copied out.
     pub map-opened : (cels : List ℕ) → cels ≡ cellsImage (length cels) (o .masks) → (blank crowd : List ℕ) → length crowd ≡ length blank → crowd ≡ idsImage (length blank) (tally (entitiesIn n ents))
@@ -116,7 +117,7 @@ module _ (w : List ℕ) (k : Known w) where
         }
 
   -- A map that is copied out, with empty net lists, is ready for the events of a batch.
-  pub opened-ready : (ents cels crowd occ emp : List ℕ) (n : Counts) → Opened w ents cels crowd n → Blank occ → Blank emp → Roomy ents cels crowd occ emp → Ready ents cels crowd occ emp n (occupied o) (startBatch o)
+  pub opened-ready : (ents cels crowd occ emp : List ℕ) (n : Counts) → Opened w ents cels crowd n → Blank occ → Blank emp → Roomy ents cels crowd occ emp → Ready (decode w .kind) ents cels crowd occ emp n (occupied o) (startBatch o)
   unfolding crowdOf
   opened-ready ents cels crowd occ emp n x z y r =
       let few : length (o .masks) ≤ mostCells = omega (arith, k .ok .few-cells, keys-length (o .masks)) in
@@ -139,7 +140,7 @@ module _ (w : List ℕ) (k : Known w) where
             emptied-fit = omega (arith, x .emptied-none);
           };
           placed = record {
-            sound = start-sound touch26 o (k .ok .sound);
+            sound = start-sound (touchOf (decode w)) o (k .ok .sound);
             inside = record { stood = λ {c = a} m. k .ok .range-entities a m; opened = λ m. absurd (mem-nil m); emptied = λ m. absurd (mem-nil m) };
             opened-asc = nil;
             emptied-asc = nil;
@@ -148,7 +149,7 @@ module _ (w : List ℕ) (k : Known w) where
           };
         };
         within = record { entities = k .ok .few-entities; cells = k .ok .few-cells };
-        was-asc = occupied-asc touch26 o (k .ok .sound);
+        was-asc = occupied-asc (touchOf (decode w)) o (k .ok .sound);
         was-few = k .ok .few-cells;
         net = record { opened = sym (minus-self cells (occupied o)); emptied = sym (minus-self cells (occupied o)) };
         room = r;
@@ -161,7 +162,7 @@ module _ (w : List ℕ) (k : Known w) where
         rows = record {
           image = e;
           count = c ∙ k .stands .id-count;
-          asc = subst (Asc below) (sym (k .ok .id-cells)) (occupied-asc touch26 o (k .ok .sound));
+          asc = subst (Asc below) (sym (k .ok .id-cells)) (occupied-asc (touchOf (decode w)) o (k .ok .sound));
           ranged = λ a m. occupied-ranged w k a (subst (λ l. Mem a l) (k .ok .id-cells) m);
           fits = omega (arith, c, k .stands .id-count, ids-room (length (decode w .groups .ids)) (k .fits .ids), h);
         };
@@ -174,14 +175,14 @@ module _ {w ents cels crowd occ emp : List ℕ} {n : Counts} {b : Batch} (f : Fi
   s = decode w
 
   abbrev p : Occupancy
-  p = playBatch touch26 b (s .occupancy)
+  p = playBatch (touchOf s) b (s .occupancy)
 
-  yes : Accepts touch26 s b
-  yes = accepts touch26 s b (update-accepted touch26 s b (f .accepted) .0)
+  yes : Accepts (touchOf s) s b
+  yes = accepts (touchOf s) s b (update-accepted (touchOf s) s b (f .accepted) .0)
 
   -- What it leaves is consistent.
-  pub after-ok : Ok touch26 (accepted touch26 s b)
-  after-ok = accepted-ok touch26 touching-26 s b (f .known .ok) yes
+  pub after-ok : Ok (touchOf s) (accepted s b)
+  after-ok = accepted-ok (touchOf s) (touching-of s) s b (f .known .ok) yes
 
   -- The newly occupied cells, as the rules take them.
   opened-held : HeldCells occ (n .occupied) (p .newlyOccupied)
@@ -206,47 +207,48 @@ module _ {w ents cels crowd occ emp : List ℕ} {n : Counts} {b : Batch} (f : Fi
       }
 
   -- There are few cells with an id afterwards.
-  few-after : length (regroup touch26 (p .newlyOccupied) (p .newlyEmptied) (s .groups) .ids) ≤ mostCells
-  unfolding accepted
+  few-after : length (regroup (touchOf s) (p .newlyOccupied) (p .newlyEmptied) (s .groups) .ids) ≤ mostCells
+  unfolding acceptedBy
   few-after =
-      omega (arith, after-ok .few-cells, ap length (after-ok .id-cells), keys-length (regroup touch26 (p .newlyOccupied) (p .newlyEmptied) (s .groups) .ids))
+      omega (arith, after-ok .few-cells, ap length (after-ok .id-cells), keys-length (regroup (touchOf s) (p .newlyOccupied) (p .newlyEmptied) (s .groups) .ids))
 
   -- The next id is a number of 64 bits afterwards.
-  next-after : regroup touch26 (p .newlyOccupied) (p .newlyEmptied) (s .groups) .next < 18446744073709551616
-  unfolding accepted
+  next-after : regroup (touchOf s) (p .newlyOccupied) (p .newlyEmptied) (s .groups) .next < 18446744073709551616
+  unfolding acceptedBy
   next-after =
-      subst (λ (u : State). u .groups .next < 18446744073709551616) (update-accepted touch26 s b (f .accepted) .1)
-      (next-fits touch26 touching-26 s (ok-in touch26 (touching-26 .flip) s (f .known .ok)) b (f .accepted))
+      subst (λ (u : State). u .groups .next < 18446744073709551616) (update-accepted (touchOf s) s b (f .accepted) .1)
+      (next-fits (touchOf s) (touching-of s) s (ok-in (touchOf s) (touching-of s .flip) s (f .known .ok)) b (f .accepted))
 
   -- There are few newly occupied cells.
   opened-few : n .occupied ≤ mostCells
-  unfolding accepted
+  unfolding acceptedBy
   opened-few = omega (arith, f .ready .held .stored .occupied-count, after-ok .few-occupied)
 
   -- There are rows of the crowd for the cells, and few of them.
   pub crowd-fits : (crowdWidth * n .cells ≤ length crowd) × (n .cells ≤ mostCells)
-  unfolding accepted
+  unfolding acceptedBy
   crowd-fits = (f .ready .held .crowd-fit, omega (arith, f .ready .held .stored .cells-count, keys-length (p .masks), after-ok .few-cells))
 
   -- The rows of the crowd are the crowd.
   crowd-read : idsIn (n .cells) crowd ≡ crowdOf p
   crowd-read =
-      let c : n .cells ≡ length (crowdOf p) = f .ready .held .stored .cells-count ∙ sym (keys-length (p .masks)) ∙ sym (crowd-length p (f .ready .held .placed .sound)) in
+      let c : n .cells ≡ length (crowdOf p) = f .ready .held .stored .cells-count ∙ sym (keys-length (p .masks)) ∙ sym (crowd-length (touchOf s) p (f .ready .held .placed .sound)) in
       (λ i. idsIn (c i) (f .ready .held .crowd-is i)) ∙ ids-laws .read (length crowd) (crowdOf p) (λ a m. tt)
 
   -- The numbers of the crowd count the entities in each cell that has an id afterwards.
   counted-after : (counts : List ℕ) → take (n .cells) counts ≡ values (idsIn (n .cells) crowd)
-      → Counted counts (p .entities) (keys (regroup touch26 (p .newlyOccupied) (p .newlyEmptied) (s .groups) .ids))
-  unfolding accepted
+      → Counted counts (p .entities) (keys (regroup (touchOf s) (p .newlyOccupied) (p .newlyEmptied) (s .groups) .ids))
+  unfolding acceptedBy
   counted-after counts e =
       subst (Counted counts (p .entities)) (sym (after-ok .id-cells))
       (ap (λ (m : ℕ). take m counts) (keys-length (p .masks) ∙ sym (f .ready .held .stored .cells-count)) ∙ e ∙ ap values crowd-read ∙ crowd-values p)
 
   -- The groups can be regrouped.
-  pub finish-regroups : (ids counts groups : List ℕ) → Blank ids → idSpace ≤ length ids → take (n .cells) counts ≡ values (idsIn (n .cells) crowd) → Blank groups → groupSpace ≤ length groups
-      → CanRegroup w ids counts groups occ (n .occupied) emp (n .emptied) (p .newlyOccupied) (p .newlyEmptied) (p .entities)
-  finish-regroups ids counts groups z h t y g =
-      record {
+  pub finish-regroups : (ids counts groups : List ℕ) → Blank ids → idSpace ≤ length ids → take (n .cells) counts ≡ values (idsIn (n .cells) crowd) → Blank groups → groupSpace ≤ length groups → (kind : ℕ) → kind ≡ kindOf w
+      → CanRegroup kind w ids counts groups occ (n .occupied) emp (n .emptied) (p .newlyOccupied) (p .newlyEmptied) (p .entities)
+  finish-regroups ids counts groups z h t y g kind is =
+      subst (λ (j : ℕ). CanRegroup j w ids counts groups occ (n .occupied) emp (n .emptied) (p .newlyOccupied) (p .newlyEmptied) (p .entities)) (sym (is ∙ f .known .stands .kind-is))
+      (record {
         known = f .known;
         ids-blank = z;
         ids-room = h;
@@ -260,12 +262,12 @@ module _ {w ents cels crowd occ emp : List ℕ} {n : Counts} {b : Batch} (f : Fi
         next-fits = next-after;
         counted = counted-after counts t;
         few-entities = f .ready .within .entities;
-      }
+      })
 
 -- The cells with an id, copied out, can be regrouped.
-pub regroup-ready : {w ids counts groups occ : List ℕ} {p : ℕ} {emp : List ℕ} {m : ℕ} {o e : List Cell} {entities : List (ℕ × Cell)} → CanRegroup w ids counts groups occ p emp m o e entities
-    → (row words : List ℕ) → row ≡ idWords w → words ≡ over ids 0 row → length words ≡ length ids → (n : ℕ) → n ≡ idCount w → Regroups words n (nextId w) counts groups occ p emp m (decode w .groups) o e entities
-regroup-ready {w} {ids} {counts} {groups} {occ} {p} {emp} {m} {o} {e} {entities} x row words q g l n c =
+pub regroup-ready : {kind : ℕ} {w ids counts groups occ : List ℕ} {p : ℕ} {emp : List ℕ} {m : ℕ} {o e : List Cell} {entities : List (ℕ × Cell)} → CanRegroup kind w ids counts groups occ p emp m o e entities
+    → (row words : List ℕ) → row ≡ idWords w → words ≡ over ids 0 row → length words ≡ length ids → (n : ℕ) → n ≡ idCount w → Regroups kind words n (nextId w) counts groups occ p emp m (decode w .groups) o e entities
+regroup-ready {kind} {w} {ids} {counts} {groups} {occ} {p} {emp} {m} {o} {e} {entities} x row words q g l n c =
     let k = x .known in
     let h : idsLen ≤ length ids = omega (arith, x .ids-room, ids-spare) in
     let r = ids-room (length (decode w .groups .ids)) (k .fits .ids) in
@@ -286,7 +288,8 @@ regroup-ready {w} {ids} {counts} {groups} {occ} {p} {emp} {m} {o} {e} {entities}
 -- The map of a state and empty net lists, each table with a row to spare.
 pub map-ready : (w : List ℕ) (k : Known w) (ents cels crowd occ emp : List ℕ) (n : Counts) → Opened w ents cels crowd n
     → length ents ≡ entitySpace → length cels ≡ cellSpace → length crowd ≡ crowdSpace → Blank occ → length occ ≡ netSpace → Blank emp → length emp ≡ netSpace
-    → Ready ents cels crowd occ emp n (occupied (decode w .occupancy)) (startBatch (decode w .occupancy))
+    → Ready (kindOf w) ents cels crowd occ emp n (occupied (decode w .occupancy)) (startBatch (decode w .occupancy))
 map-ready w k ents cels crowd occ emp n x a b c z d y e =
-    opened-ready w k ents cels crowd occ emp n x z y
-    (record { ents-room = omega (arith, a); cells-room = omega (arith, b); crowd-room = omega (arith, c); occ-room = omega (arith, d); emp-room = omega (arith, e) })
+    subst (λ (j : ℕ). Ready j ents cels crowd occ emp n (occupied (decode w .occupancy)) (startBatch (decode w .occupancy))) (sym (k .stands .kind-is))
+    (opened-ready w k ents cels crowd occ emp n x z y
+    (record { ents-room = omega (arith, a); cells-room = omega (arith, b); crowd-room = omega (arith, c); occ-room = omega (arith, d); emp-room = omega (arith, e) }))

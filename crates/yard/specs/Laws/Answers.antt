@@ -9,7 +9,6 @@ use borrow.Author.Tests.{eq-eqb, ne-eqb, ltb-false}
 use Rattle.refusal.specs.declared.Refusal.{Refusal}
 use Rattle.refusal.specs.Forms as form
 use Rattle.refusal.specs.Forms.{none, broken, plain}
-use Rattle.model.specs.Cells.{touch26}
 use Rattle.model.specs.Occupancy.{Batch}
 use Rattle.model.specs.Update.{update}
 use Rattle.model.specs.Laws.Tests.{T-true}
@@ -41,7 +40,7 @@ module _ (w b : List ℕ) (r m : ℕ) where
   -- What is answered and left, by the two tests.
   abbrev answer : Bool → Bool → Refusal × List ℕ
   answer short good =
-      cond short (form.tooShort, w) (cond (not good) (broken (firstBroken w), w) (placedIn asked (done w (update touch26 (decode w) asked))))
+      cond short (form.tooShort, w) (cond (not good) (broken (firstBroken w), w) (placedIn asked (done w (update (decode w) asked))))
 
   answer-is : (s c : Bool) → tooShort w b r m ≡ s → consistentWords w ≡ c → answer s c ≡ updateOf w b r m
   unfolding updateOf
@@ -87,7 +86,7 @@ module _ (w b : List ℕ) (r m : ℕ) where
         state-known = known w good (enough .0)
 
         -- The rest of the refusals.
-        rest-answer : (n : ℕ) (v : List ℕ) → (n, v) ≡ done w (update touch26 (decode w) asked) → (batchRefusal asked n, v) ≡ updateOf w b r m
+        rest-answer : (n : ℕ) (v : List ℕ) → (n, v) ≡ done w (update (decode w) asked) → (batchRefusal asked n, v) ≡ updateOf w b r m
         rest-answer n v k = ap (placedIn asked) k ∙ answer-is false true e good
 
         module _ (q : Refusal) (h : q ≡ batchRefusal asked (early (nextId w) asked)) where
@@ -105,11 +104,11 @@ module _ (w b : List ℕ) (r m : ℕ) where
             pub early-none : early (nextId w) asked ≡ 0
             early-none = sym number-is ∙ o
 
-            not-four : (n : ℕ) → n ≡ update touch26 (decode w) asked .0 → n ≡ 4 → ⊥
+            not-four : (n : ℕ) → n ≡ update (decode w) asked .0 → n ≡ 4 → ⊥
             not-four n k l = T-true {b = false} (sym (early-in-range (nextId w) asked early-none) ∙ update-four (decode w) asked (sym k ∙ l))
 
             -- 6 and 7, and none.
-            pub last-answer : (n : ℕ) (v : List ℕ) → (n, v) ≡ done w (update touch26 (decode w) asked) → (plain n, v) ≡ updateOf w b r m
+            pub last-answer : (n : ℕ) (v : List ℕ) → (n, v) ≡ done w (update (decode w) asked) → (plain n, v) ≡ updateOf w b r m
             unfolding done
             last-answer n v k =
                 (λ i. (sym (placed-plain asked n (not-four n (ap (λ (p : ℕ × List ℕ). p .0) k))) i, v)) ∙ rest-answer n v k

@@ -6,9 +6,9 @@ use mathlib.Core.Bool.{Bool, true, false, cond}
 use mathlib.Core.List.{List, [], _∷_}
 use lib.Dec.{eqb}
 use borrow.Author.Tests.{eqb-true}
-use Rattle.model.specs.Cells.{touch26}
+use Rattle.model.specs.Cells.{Cell}
 use Rattle.model.specs.Occupancy.{Occupancy, Event, Batch, startBatch, play, events}
-use Rattle.model.specs.Update.{State, tooManyEvents, outOfRange, fewIds, tooManyEntities, tooManyCells, brokenBy, refusal, accepted, update}
+use Rattle.model.specs.Update.{State, tooManyEvents, outOfRange, fewIds, tooManyEntities, tooManyCells, touchOf, brokenBy, refusalBy, updateBy, refusal, accepted, update}
 use Rattle.model.specs.Laws.Tests.{T-true}
 use Rattle.batch.specs.Places.{batchRefusal}
 use Rattle.batch.specs.Laws.Places.{placed-number}
@@ -22,29 +22,29 @@ pub record Late (n : ℕ) : Type 0 where
   pub five : eqb n 5 ≡ false
 
 -- The events give 0, 6 or 7.
-pub broken-late : (o : Occupancy) (es : List Event) → Late (brokenBy touch26 o es)
-broken-late o [] = record { one = refl; two = refl; three = refl; four = refl; five = refl }
-broken-late o (e ∷ es) = go (tooManyEntities (play touch26 o e)) (tooManyCells (play touch26 o e)) (broken-late (play touch26 o e) es)
+pub broken-late : (touch : Cell → Cell → Bool) (o : Occupancy) (es : List Event) → Late (brokenBy touch o es)
+broken-late touch o [] = record { one = refl; two = refl; three = refl; four = refl; five = refl }
+broken-late touch o (e ∷ es) = go (tooManyEntities (play touch o e)) (tooManyCells (play touch o e)) (broken-late touch (play touch o e) es)
   where
-    go : (a b : Bool) → Late (brokenBy touch26 (play touch26 o e) es) → Late (cond a 6 (cond b 7 (brokenBy touch26 (play touch26 o e) es)))
+    go : (a b : Bool) → Late (brokenBy touch (play touch o e) es) → Late (cond a 6 (cond b 7 (brokenBy touch (play touch o e) es)))
     go true b h = record { one = refl; two = refl; three = refl; four = refl; five = refl }
     go false true h = record { one = refl; two = refl; three = refl; four = refl; five = refl }
     go false false h = h
 
 module _ (s : State) (b : Batch) where
   -- The number of the model's update is that of its refusal.
-  pub update-number : update touch26 s b .0 ≡ refusal touch26 s b
-  unfolding update
-  update-number = go (eqb (refusal touch26 s b) 0) refl
+  pub update-number : update s b .0 ≡ refusal s b
+  unfolding updateBy
+  update-number = go (eqb (refusal s b) 0) refl
     where
-      go : (t : Bool) → eqb (refusal touch26 s b) 0 ≡ t → (cond {A = ℕ × State} t (0, accepted touch26 s b) (refusal touch26 s b, s)) .0 ≡ refusal touch26 s b
-      go true e = sym (eqb-true (refusal touch26 s b) 0 e)
+      go : (t : Bool) → eqb (refusal s b) 0 ≡ t → (cond {A = ℕ × State} t (0, accepted s b) (refusal s b, s)) .0 ≡ refusal s b
+      go true e = sym (eqb-true (refusal s b) 0 e)
       go false e = refl
 
   -- 4 is given for a coordinate out of range only.
-  refusal-four : refusal touch26 s b ≡ 4 → outOfRange b ≡ true
-  unfolding refusal
-  refusal-four = go (tooManyEvents b) (outOfRange b) (fewIds (s .groups .next)) (brokenBy touch26 (startBatch (s .occupancy)) (events b)) (broken-late (startBatch (s .occupancy)) (events b))
+  refusal-four : refusal s b ≡ 4 → outOfRange b ≡ true
+  unfolding refusalBy
+  refusal-four = go (tooManyEvents b) (outOfRange b) (fewIds (s .groups .next)) (brokenBy (touchOf s) (startBatch (s .occupancy)) (events b)) (broken-late (touchOf s) (startBatch (s .occupancy)) (events b))
     where
       go : (x y z : Bool) (n : ℕ) → Late n → cond x 3 (cond y 4 (cond z 5 n)) ≡ 4 → y ≡ true
       go x true z n h e = refl
@@ -53,9 +53,9 @@ module _ (s : State) (b : Batch) where
       go false false false n h e = absurd (T-true {b = false} (sym (h .four) ∙ ap (λ (k : ℕ). eqb k 4) e))
 
   -- 2 is not given.
-  refusal-not-two : refusal touch26 s b ≡ 2 → ⊥
-  unfolding refusal
-  refusal-not-two = go (tooManyEvents b) (outOfRange b) (fewIds (s .groups .next)) (brokenBy touch26 (startBatch (s .occupancy)) (events b)) (broken-late (startBatch (s .occupancy)) (events b))
+  refusal-not-two : refusal s b ≡ 2 → ⊥
+  unfolding refusalBy
+  refusal-not-two = go (tooManyEvents b) (outOfRange b) (fewIds (s .groups .next)) (brokenBy (touchOf s) (startBatch (s .occupancy)) (events b)) (broken-late (touchOf s) (startBatch (s .occupancy)) (events b))
     where
       go : (x y z : Bool) (n : ℕ) → Late n → cond x 3 (cond y 4 (cond z 5 n)) ≡ 2 → ⊥
       go true y z n h e = omega arith
@@ -63,12 +63,12 @@ module _ (s : State) (b : Batch) where
       go false false true n h e = omega arith
       go false false false n h e = T-true {b = false} (sym (h .two) ∙ ap (λ (k : ℕ). eqb k 2) e)
 
-  pub update-not-two : update touch26 s b .0 ≡ 2 → ⊥
+  pub update-not-two : update s b .0 ≡ 2 → ⊥
   update-not-two e = refusal-not-two (sym update-number ∙ e)
 
-  pub update-four : update touch26 s b .0 ≡ 4 → outOfRange b ≡ true
+  pub update-four : update s b .0 ≡ 4 → outOfRange b ≡ true
   update-four e = refusal-four (sym update-number ∙ e)
 
   -- The number with its place is the number.
-  pub number-stays : batchRefusal b (update touch26 s b .0) .number ≡ update touch26 s b .0
-  number-stays = placed-number b (update touch26 s b .0) update-four
+  pub number-stays : batchRefusal b (update s b .0) .number ≡ update s b .0
+  number-stays = placed-number b (update s b .0) update-four

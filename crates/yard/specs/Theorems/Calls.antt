@@ -9,11 +9,9 @@ use lib.ListN.{length, drop}
 use borrow.Author.Tests.{eqb-true, eqb-false}
 use Rattle.refusal.specs.declared.Refusal.{Refusal}
 use Rattle.refusal.specs.Forms as form
-use Rattle.model.specs.Cells.{touch26}
 use Rattle.model.specs.Update.{State, update}
 use Rattle.model.specs.Consistent.{consistent}
-use Rattle.model.specs.Laws.Touching.{touching-26}
-use Rattle.model.specs.Theorems.StaysConsistent.{consistent-update}
+use Rattle.model.specs.Theorems.Kinds.{kind-kept, consistent-update-kind}
 use Rattle.layout.specs.Widths.{moveWidth}
 use Rattle.layout.specs.State.{stateLen, encode, decode}
 use Rattle.layout.specs.Points.{longEnough, firstBroken, consistentWords}
@@ -27,10 +25,10 @@ use Rattle.yard.specs.Laws.Numbers.{number-stays}
 
 -- What a call that is done leaves: the update of the model is done too, and the words begin with the image of the state after it, which is consistent.
 pub record Done (w b : List ℕ) (removals moves : ℕ) : Type 0 where
-  pub number : update touch26 (decode w) (batchOf b removals moves) .0 ≡ 0
-  pub words : updateOf w b removals moves .1 ≡ encode (update touch26 (decode w) (batchOf b removals moves) .1) ++ drop stateLen w
-  pub sound : T (consistent touch26 (update touch26 (decode w) (batchOf b removals moves) .1))
-  pub stands : decode (updateOf w b removals moves .1) ≡ update touch26 (decode w) (batchOf b removals moves) .1
+  pub number : update (decode w) (batchOf b removals moves) .0 ≡ 0
+  pub words : updateOf w b removals moves .1 ≡ encode (update (decode w) (batchOf b removals moves) .1) ++ drop stateLen w
+  pub sound : T (consistent (update (decode w) (batchOf b removals moves) .1))
+  pub stands : decode (updateOf w b removals moves .1) ≡ update (decode w) (batchOf b removals moves) .1
 
 long-of : (a b : Bool) → (not a || b) ≡ false → a ≡ true
 long-of true b e = refl
@@ -38,7 +36,7 @@ long-of false b e = absurd (subst (λ (t : Bool). cond t (Unit {0}) ⊥) e tt)
 
 module _ (w b : List ℕ) (removals moves : ℕ) where
   abbrev after : ℕ × State
-  after = update touch26 (decode w) (batchOf b removals moves)
+  after = update (decode w) (batchOf b removals moves)
 
   abbrev answer : Bool → Bool → Refusal × List ℕ
   answer s c =
@@ -87,7 +85,7 @@ module _ (w b : List ℕ) (removals moves : ℕ) where
       let z = zero (tooShort w b removals moves) (consistentWords w) (sym (ap (λ (p : Refusal × List ℕ). p .0 .number) answer-is) ∙ e) in
       let l : longEnough w ≡ true = long-of (longEnough w) (ltb (length b) (removals + moveWidth * moves)) (z .0) in
       let c = consistent-image w (z .1) l in
-      let s : T (consistent touch26 (after .1)) = consistent-update touch26 touching-26 (decode w) (batchOf b removals moves) (c .0) (z .2) in
+      let s : T (consistent (after .1)) = consistent-update-kind (decode w) (batchOf b removals moves) (c .0) (z .2) in
       let v : updateOf w b removals moves .1 ≡ encode (after .1) ++ drop stateLen w = ap (λ (p : Refusal × List ℕ). p .1) answer-is ∙ z .3 in
       record { number = z .2; words = v; sound = s; stands = ap decode v ∙ decode-longer (after .1) s (drop stateLen w) }
 
@@ -100,3 +98,13 @@ module _ (w b : List ℕ) (removals moves : ℕ) where
           let d = call-done (eqb-true (updateOf w b removals moves .0 .number) 0 e) in
           ap consistentWords (d .words) ∙ image-consistent (after .1) (drop stateLen w) (d .sound)
       go false e = ap consistentWords (update-kept (eqb-false (updateOf w b removals moves .0 .number) 0 e)) ∙ c
+
+  -- No call changes what touching means.
+  pub update-kind : decode (updateOf w b removals moves .1) .kind ≡ decode w .kind
+  update-kind = go (eqb (updateOf w b removals moves .0 .number) 0) refl
+    where
+      go : (t : Bool) → eqb (updateOf w b removals moves .0 .number) 0 ≡ t → decode (updateOf w b removals moves .1) .kind ≡ decode w .kind
+      go true e =
+          let d = call-done (eqb-true (updateOf w b removals moves .0 .number) 0 e) in
+          ap (λ (s : State). s .kind) (d .stands) ∙ kind-kept (decode w) (batchOf b removals moves)
+      go false e = ap (λ (v : List ℕ). decode v .kind) (update-kept (eqb-false (updateOf w b removals moves .0 .number) 0 e))

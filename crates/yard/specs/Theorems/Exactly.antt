@@ -5,9 +5,8 @@ use mathlib.Core.Bool.{Bool, true, false, cond, not}
 use mathlib.Core.List.{List}
 use Rattle.refusal.specs.declared.Refusal.{Refusal}
 use Rattle.refusal.specs.Forms as form
-use Rattle.model.specs.Cells.{touch26}
 use Rattle.model.specs.Occupancy.{Batch, startBatch, events}
-use Rattle.model.specs.Update.{State, tooManyEvents, outOfRange, fewIds, brokenBy, refusal, update}
+use Rattle.model.specs.Update.{State, tooManyEvents, outOfRange, fewIds, touchOf, brokenBy, refusalBy, refusal, update}
 use Rattle.layout.specs.State.{decode}
 use Rattle.layout.specs.Points.{firstBroken, consistentWords}
 use Rattle.batch.specs.Words.{batchOf, tooShort}
@@ -35,14 +34,14 @@ module _ (w b : List ℕ) (removals moves : ℕ) where
 
   -- The number of the first event that breaks 6 or 7, 0 where none does.
   abbrev pub broken : ℕ
-  broken = brokenBy touch26 (startBatch (given .occupancy)) (events asked)
+  broken = brokenBy (touchOf given) (startBatch (given .occupancy)) (events asked)
 
   number-by : updateOf w b removals moves .0 .number ≡ numberBy (tooShort w b removals moves) (consistentWords w) (tooManyEvents asked) (outOfRange asked) (fewIds (given .groups .next)) broken
-  unfolding updateOf done refusal
+  unfolding updateOf done refusalBy
   number-by = go (tooShort w b removals moves) (consistentWords w)
     where
-      go : (t g : Bool) → (cond {A = Refusal × List ℕ} t (form.tooShort, w) (cond {A = Refusal × List ℕ} (not g) (form.broken (firstBroken w), w) (placedIn asked (done w (update touch26 given asked))))) .0 .number
-          ≡ cond t 1 (cond (not g) 2 (refusal touch26 given asked))
+      go : (t g : Bool) → (cond {A = Refusal × List ℕ} t (form.tooShort, w) (cond {A = Refusal × List ℕ} (not g) (form.broken (firstBroken w), w) (placedIn asked (done w (update given asked))))) .0 .number
+          ≡ cond t 1 (cond (not g) 2 (refusal given asked))
       go true g = refl
       go false false = refl
       go false true = number-stays given asked ∙ update-number given asked
@@ -51,4 +50,4 @@ module _ (w b : List ℕ) (removals moves : ℕ) where
   pub update-exactly : Exactly (updateOf w b removals moves .0 .number) (tooShort w b removals moves) (consistentWords w) (tooManyEvents asked) (outOfRange asked) (fewIds (given .groups .next)) broken
   update-exactly =
       subst (λ (n : ℕ). Exactly n (tooShort w b removals moves) (consistentWords w) (tooManyEvents asked) (outOfRange asked) (fewIds (given .groups .next)) broken) (sym number-by)
-      (exact (tooShort w b removals moves) (consistentWords w) (tooManyEvents asked) (outOfRange asked) (fewIds (given .groups .next)) broken (broken-late (startBatch (given .occupancy)) (events asked)))
+      (exact (tooShort w b removals moves) (consistentWords w) (tooManyEvents asked) (outOfRange asked) (fewIds (given .groups .next)) broken (broken-late (touchOf given) (startBatch (given .occupancy)) (events asked)))

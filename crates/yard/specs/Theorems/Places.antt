@@ -9,7 +9,7 @@ use lib.Dec.{eqb}
 use borrow.Author.Tests.{eqb-true, eqb-false}
 use Rattle.refusal.specs.declared.Refusal.{Refusal}
 use Rattle.refusal.specs.Forms as form
-use Rattle.model.specs.Cells.{Cell, touch26}
+use Rattle.model.specs.Cells.{Cell}
 use Rattle.model.specs.Occupancy.{Batch}
 use Rattle.model.specs.Update.{update}
 use Rattle.layout.specs.State.{decode}
@@ -49,9 +49,9 @@ module _ (w b : List ℕ) (removals moves : ℕ) where
   update-tells = go (tooShort w b removals moves) (consistentWords w)
     where
       n : ℕ
-      n = update touch26 (decode w) (batchOf b removals moves) .0
+      n = update (decode w) (batchOf b removals moves) .0
 
-      go : (s c : Bool) → Tells ((cond {A = Refusal × List ℕ} s (form.tooShort, w) (cond {A = Refusal × List ℕ} (not c) (form.broken (firstBroken w), w) (placedIn (batchOf b removals moves) (done w (update touch26 (decode w) (batchOf b removals moves)))))) .0) (firstBroken w) (batchOf b removals moves .moves)
+      go : (s c : Bool) → Tells ((cond {A = Refusal × List ℕ} s (form.tooShort, w) (cond {A = Refusal × List ℕ} (not c) (form.broken (firstBroken w), w) (placedIn (batchOf b removals moves) (done w (update (decode w) (batchOf b removals moves)))))) .0) (firstBroken w) (batchOf b removals moves .moves)
       go true c = plain-tells 1 (firstBroken w) (batchOf b removals moves .moves) (λ e. omega arith) (λ e. omega arith)
       go false false = record { two = λ _. (refl, refl); four = λ e. absurd (omega arith); others = λ f _. absurd (f refl) }
       go false true = batch-tells (batchOf b removals moves) n (firstBroken w) (update-not-two (decode w) (batchOf b removals moves)) (number-stays (decode w) (batchOf b removals moves))

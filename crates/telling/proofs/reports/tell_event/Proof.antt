@@ -3,6 +3,7 @@ use mathlib.Core.Path.{refl, _∙_, ap}
 use mathlib.Core.List.{List, [], _∷_, _++_}
 use Prim.Native.Nat.{ℕ}
 use borrow.Author.Needs.{needs}
+use Rattle.refusal.specs.declared.Refusal.{Refusal}
 use Rattle.metres.specs.declared.Answer.the-variants.{Event, NoEvent, Refused}
 use Rattle.moves.specs.Words.{moveWords}
 use Rattle.telling.specs.Reports.{eventTold}
@@ -69,7 +70,7 @@ returns c =
     let s = m .before .before .before .before .before .before .before .before .before .before in
     telling-by eventTold (s .args .a) (Event (v .0 .0)) (v .1) (s .args .told .now) (w .write-row .last .0)
     _ (w .write-row .ensures ∙ over-front (s .args .told .now) _)
-    (ap (λ (x : ℕ × List ℕ). x .1) (p .put-move .ensures) ∙ words-between (v .0 .0) _ _ _ _ _
+    (ap (λ (x : Refusal × List ℕ). x .1) (p .put-move .ensures) ∙ words-between (v .0 .0) _ _ _ _ _
     ∙ (λ i. 1 ∷ (moveWords (v .0 .0) ++ (z .before .before .bits .ensures i ∷ z .before .bits2 .ensures i ∷ z .bits3 .ensures i ∷ m .before .said .ensures i ∷ m .error-bits .ensures i ∷ []))))
 
 same-length-2 : tie.Need-same-length-2

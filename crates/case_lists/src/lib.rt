@@ -1,0 +1,3 @@
+// The lists and the floods that questions answer, as the text of a row.
+pub mod items;
+pub mod sorting;
