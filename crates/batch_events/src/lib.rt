@@ -14,7 +14,7 @@ use layout::{MOST_CELLS, MOST_ENTITIES, MOVE_WIDTH};
 use map::{Counts, play_move, play_removal};
 
 // The counts after some events, and the number of the first that breaks a limit, 0 where none does.
-#[derive(Drop)]
+#[derive(Clone, Copy)]
 pub struct Played {
     pub counts: Counts,
     pub number: u64,

@@ -97,7 +97,7 @@ const A_NUMBER: u64 = 2;
 
 // How far a row is read: where the next number and the next word come to stand; of the one that is being read its place, its value so
 // far and what it is; and whether a minus stands before it.
-#[derive(Drop)]
+#[derive(Clone, Copy)]
 pub struct Reading {
     pub number: usize,
     pub word: usize,

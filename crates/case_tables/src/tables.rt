@@ -11,7 +11,7 @@ use layout::{
 };
 
 // A table: which word of the header counts its rows, where they begin, and how many words a row has.
-#[derive(Drop)]
+#[derive(Clone, Copy)]
 pub struct Table {
     pub count: usize,
     pub from: usize,

@@ -9,7 +9,7 @@ ghost use Rattle.component.specs.Around.{step_n, neighbour_at, neighbour_count};
 ghost use Rattle.component.specs.Adjacent.{axis_room, has_room, adjacent_of};
 
 // A cell's place in its grid, by axis.
-#[derive(Drop)]
+#[derive(Clone, Copy)]
 pub struct CellCoord {
     pub x: i32,
     pub y: i32,
@@ -93,7 +93,7 @@ pub fn bad_axis(c: CellCoord) -> u64
 }
 
 // The stored form of a cell: its grid, and each coordinate as x + 2^31, so that cell order is the order of numbers.
-#[derive(Drop)]
+#[derive(Clone, Copy)]
 pub struct Cell {
     pub grid: u64,
     pub z: u64,
@@ -125,7 +125,7 @@ pub fn comes_before(a: Cell, b: Cell) -> bool
 }
 
 // A cell: its grid, and its place there.
-#[derive(Drop)]
+#[derive(Clone, Copy)]
 pub struct CellId {
     pub grid: u64,
     pub coord: CellCoord,
@@ -308,7 +308,7 @@ pub fn touching(a: Cell, b: Cell) -> bool
 }
 
 // A cell, or that there is none.
-#[derive(Drop)]
+#[derive(Clone, Copy)]
 pub enum Neighbour {
     Is(Cell),
     Nothing,

@@ -17,14 +17,14 @@ use refusal::Refusal;
 use table::Place;
 
 // How many cells a flood gives, and whether that was all of it.
-#[derive(Drop)]
+#[derive(Clone, Copy)]
 pub struct Visited {
     pub number: usize,
     pub was_all: bool,
 }
 
 // What a flood gives; of one that is too long, the words needed.
-#[derive(Drop)]
+#[derive(Clone, Copy)]
 pub enum Flooding {
     Found(Visited),
     NotFound(Visited),
@@ -33,7 +33,7 @@ pub enum Flooding {
 }
 
 // How far a flood goes.
-#[derive(Drop)]
+#[derive(Clone, Copy)]
 pub enum Depth {
     Whole,
     AtMost(i32),

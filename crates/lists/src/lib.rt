@@ -25,7 +25,7 @@ use refusal::Refusal;
 use table::Place;
 
 // How many a list holds; of one that is too long, the words needed.
-#[derive(Drop)]
+#[derive(Clone, Copy)]
 pub enum Listing {
     Found(usize),
     NotFound(usize),

@@ -20,14 +20,14 @@ use refusal::Refusal;
 use table::Place;
 
 // What touching means in a state.
-#[derive(Drop)]
+#[derive(Clone, Copy)]
 pub enum KindOf {
     Is(u64),
     Refused(Refusal),
 }
 
 // Where an entity stands.
-#[derive(Drop)]
+#[derive(Clone, Copy)]
 pub enum Where {
     Found(CellId),
     NotFound,
@@ -35,7 +35,7 @@ pub enum Where {
 }
 
 // The id of a cell.
-#[derive(Drop)]
+#[derive(Clone, Copy)]
 pub enum IdOf {
     Found(u64),
     NotFound,
@@ -43,7 +43,7 @@ pub enum IdOf {
 }
 
 // How many neighbours of a cell are occupied.
-#[derive(Drop)]
+#[derive(Clone, Copy)]
 pub enum CountOf {
     Found(u32),
     NotFound,
@@ -51,7 +51,7 @@ pub enum CountOf {
 }
 
 // What is shown of a group: its grid, its cell count, its entity count, the low and the high corner.
-#[derive(Drop)]
+#[derive(Clone, Copy)]
 pub struct Shown {
     pub grid: u64,
     pub count: u64,
@@ -61,7 +61,7 @@ pub struct Shown {
 }
 
 // A group by id.
-#[derive(Drop)]
+#[derive(Clone, Copy)]
 pub enum GroupOf {
     Found(Shown),
     NotFound,
@@ -69,7 +69,7 @@ pub enum GroupOf {
 }
 
 // The number that stands under a cell.
-#[derive(Drop)]
+#[derive(Clone, Copy)]
 enum Under {
     Found(u64),
     NotFound,

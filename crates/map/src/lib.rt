@@ -21,7 +21,7 @@ use layout::{
 use table::{Place, contains, find4_near, index, is_found};
 
 // How many rows each table has; the crowd has as many as the cells.
-#[derive(Drop)]
+#[derive(Clone, Copy)]
 pub struct Counts {
     pub entities: usize,
     pub cells: usize,
@@ -108,7 +108,7 @@ pub fn note(cells: &[u64], m: usize, kind: u64, c: Cell) -> u64
 }
 
 // How many rows two net lists have: the one that a cell leaves, and the one that it joins.
-#[derive(Drop)]
+#[derive(Clone, Copy)]
 struct Nets {
     left: usize,
     joined: usize,
@@ -326,7 +326,7 @@ fn relocate(
 }
 
 // Where an entity stands.
-#[derive(Drop)]
+#[derive(Clone, Copy)]
 enum Stand {
     Inside(Cell),
     Nowhere,

@@ -14,7 +14,7 @@ use exact::{is_finite, less, size};
 use refusal::Refusal;
 
 // A yard's frame: its origin, and the edge of its cells.
-#[derive(Drop)]
+#[derive(Clone, Copy)]
 pub struct Frame {
     pub x: f64,
     pub y: f64,
@@ -23,7 +23,7 @@ pub struct Frame {
 }
 
 // What a receiver reports: easting, northing and height; these and an error; or nothing.
-#[derive(Drop)]
+#[derive(Clone, Copy)]
 pub enum Report {
     Fix(f64, f64, f64),
     Reckoned(f64, f64, f64, f64),
@@ -31,14 +31,14 @@ pub enum Report {
 }
 
 // A place on one axis: the cell's number, and the offset from its lower side.
-#[derive(Drop)]
+#[derive(Clone, Copy)]
 pub struct Spot {
     pub cell: i32,
     pub offset: f64,
 }
 
 // The offsets in a cell.
-#[derive(Drop)]
+#[derive(Clone, Copy)]
 pub struct Offsets {
     pub x: f64,
     pub y: f64,
@@ -46,14 +46,14 @@ pub struct Offsets {
 }
 
 // How far off a place may be: not said, or so many metres.
-#[derive(Drop)]
+#[derive(Clone, Copy)]
 pub enum Margin {
     Unsaid,
     Within(f64),
 }
 
 // An event: the entity, its cell, where it is in the cell, and how far off that may be.
-#[derive(Drop)]
+#[derive(Clone, Copy)]
 pub struct Placing {
     pub entity: u64,
     pub cell: CellId,
@@ -62,7 +62,7 @@ pub struct Placing {
 }
 
 // What a report makes: an event, none, or a refusal.
-#[derive(Drop)]
+#[derive(Clone, Copy)]
 pub enum Answer {
     Event(Placing),
     NoEvent,

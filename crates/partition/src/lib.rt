@@ -200,7 +200,7 @@ fn push(ids: &mut [u64], n: usize, c: Cell, g: u64) -> usize
 }
 
 // How many rows there are, and the next id.
-#[derive(Drop)]
+#[derive(Clone, Copy)]
 pub struct Numbered {
     pub count: usize,
     pub next: u64,

@@ -15,7 +15,7 @@ use yard::update;
 const SCRIPT_KIND: u64 = 26;
 
 // Where reading and writing stand between two batches, the number of the next batch, and whether there may be one.
-#[derive(Drop)]
+#[derive(Clone, Copy)]
 pub struct Progress {
     pub reader: Reader,
     pub number: u64,

@@ -2,7 +2,7 @@
 ghost use Rattle.std.specs.Prelude.{◌≡◌};
 ghost use Rattle.refusal.specs.Forms.{plain, none, too_short, broken, out_of_range, few_ids, bad_report, bad_frame, no_path, unknown_kind};
 
-#[derive(Drop)]
+#[derive(Clone, Copy)]
 pub struct Refusal {
     // The scope's number; 0 where nothing is refused.
     pub number: u64,

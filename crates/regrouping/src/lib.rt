@@ -8,7 +8,7 @@ use partition::build_records;
 use split::regroup;
 
 // How many rows the tables of the groups have, and the next id.
-#[derive(Drop)]
+#[derive(Clone, Copy)]
 pub struct Made {
     pub ids: usize,
     pub groups: usize,

@@ -3,7 +3,7 @@ ghost use Rattle.std.specs.Prelude.{◌≡◌};
 ghost use Rattle.script.specs.Records.{step_len};
 
 // What a record of a move says; a coordinate is a word of 64 bits in two's complement.
-#[derive(Drop)]
+#[derive(Clone, Copy)]
 pub struct Moved {
     pub entity: u64,
     pub grid: u64,
@@ -13,7 +13,7 @@ pub struct Moved {
 }
 
 // What stands at the start of some bytes.
-#[derive(Drop)]
+#[derive(Clone, Copy)]
 pub enum Step {
     Remove(u64),
     Move(Moved),

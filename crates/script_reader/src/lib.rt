@@ -12,7 +12,7 @@ pub const MOVES_LEN: usize = MOVE_WIDTH * MOST_EVENTS;
 
 // Bytes `at` to `end` of the buffer are still to be read; the buffer's first byte is number `base` of the input; `last` says that the
 // input has no bytes behind the buffer's.
-#[derive(Drop)]
+#[derive(Clone, Copy)]
 pub struct Reader {
     pub at: usize,
     pub end: usize,
@@ -21,7 +21,7 @@ pub struct Reader {
 }
 
 // How many removals and moves are kept of a batch, and whether there were more than are kept.
-#[derive(Drop)]
+#[derive(Clone, Copy)]
 pub struct Events {
     pub removals: usize,
     pub moves: usize,
@@ -29,7 +29,7 @@ pub struct Events {
 }
 
 // Why the records of a batch end.
-#[derive(Drop)]
+#[derive(Clone, Copy)]
 pub enum Ending {
     // They do not end yet.
     Reading,
@@ -42,7 +42,7 @@ pub enum Ending {
 }
 
 // What is read of a batch.
-#[derive(Drop)]
+#[derive(Clone, Copy)]
 pub struct Gathered {
     pub reader: Reader,
     pub events: Events,

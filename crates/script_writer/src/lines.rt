@@ -5,7 +5,7 @@ use libc::STDOUT_FILENO;
 use script::{batch_line, cell_line, end_line, entered_line, left_line, open_line, wrong_line};
 
 // A line of the answer; a cell is its grid, x, y and z.
-#[derive(Drop)]
+#[derive(Clone, Copy)]
 pub enum Line {
     // The number of a batch, and the code that answers it.
     Batch(u64, u64),

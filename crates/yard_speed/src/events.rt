@@ -5,7 +5,7 @@
 ghost use Rattle.std.specs.Prelude.{◌≤◌};
 
 // Where an entity goes.
-#[derive(Drop)]
+#[derive(Clone, Copy)]
 pub struct Move {
     pub entity: u64,
     pub x: u64,

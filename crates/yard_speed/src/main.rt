@@ -12,7 +12,7 @@ use libc::{STDIN_FILENO, STDOUT_FILENO};
 use work::BATCH_LEN;
 
 // A line of the input: its letter, its count, and where the next line starts.
-#[derive(Drop)]
+#[derive(Clone, Copy)]
 struct Task {
     letter: u8,
     count: u64,
