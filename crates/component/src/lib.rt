@@ -1,4 +1,6 @@
 // Cells: their coordinates, order, range and stored form, and which touch and surround one another.
+#![tactic(auto)]
+
 ghost use Rattle.std.specs.Prelude.{◌≡◌, ◌<◌, ◌≤◌, min, max, true};
 ghost use Rattle.component.specs.Order.{same, below};
 ghost use Rattle.component.specs.Coord.{min_z, max_z, by_axis, axis_in, first_bad, bad_axis, coord_in_range};

@@ -1,4 +1,6 @@
 // Numbers in bytes, the lowest byte first: read from a place, and put at one.
+#![tactic(auto)]
+
 ghost use Rattle.std.specs.Prelude.{◌≡◌, ◌∷◌, [], ◌+◌, ◌<◌, ◌≤◌, length};
 ghost use Rattle.little_endian.specs.Bytes.{number_at, bytes, put};
 

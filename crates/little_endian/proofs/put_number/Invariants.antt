@@ -1,0 +1,18 @@
+-- Each turn puts the lowest byte of what is left.
+use Rattle.little_endian.specs.Laws.Putting.{all}
+use Rattle.little_endian.specs.Laws.Numbers.{bytes-length, byte_next}
+use Rattle.little_endian.specs.Bytes.{bytes}
+use lib.Seq.{paste, paste-zero, paste-suc}
+use lib.ListN.{length, set, drop, length-set}
+use native.Mathlib.Omega.{arith}
+use native.Mathlib.Numerals.{add-one}
+use mathlib.Core.Path.{◌≡◌, refl, sym, ap, ◌∙◌}
+use Prim.Native.Nat.{ℕ, ◌+◌, ◌-◌, ◌≤◌, ◌<◌}
+use borrow.Author.Rules.{rules}
+use Rattle.little_endian.proofs.put_number.Given as goal
+
+abbrev pub invariant-loop-i : goal.invariant-loop-i
+invariant-loop-i l = (l.i ≤ l.k) × (l.at + l.k ≤ length l.initial.out) × (length l.out ≡ length l.initial.out) × (l.out ≡ paste l.initial.out l.at (bytes l.k l.n) l.i) × (drop l.i (bytes l.k l.n) ≡ bytes (l.k - l.i) l.left)
+
+abbrev pub decreases-loop-i : goal.decreases-loop-i
+decreases-loop-i l = l.k - l.i
