@@ -1,4 +1,6 @@
 // 64-bit floats as exact numbers: whole units of 2^-1074 m, as which every finite float can be counted.
+#![tactic(auto)]
+
 ghost use Rattle.std.specs.Prelude.{◌≡◌, T, ◌-ℤ◌};
 ghost use Rattle.std.specs.Float.{binary64};
 ghost use Rattle.std.specs.Float.Ieee.{fits};

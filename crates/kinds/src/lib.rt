@@ -1,4 +1,6 @@
 // Kinds of touching: a cell has 6, 18 or 26 neighbours.
+#![tactic(auto)]
+
 ghost use Rattle.std.specs.Prelude.{◌≡◌, cond, ◌<◌, ◌≤◌, eqb};
 ghost use Rattle.model.specs.Cells.{is_kind, kind_allows, offsets_of, touch_at};
 ghost use Rattle.model.specs.Places.{offset_at};

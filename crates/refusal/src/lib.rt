@@ -1,4 +1,6 @@
 // Why a call was refused, in one form for every call: the scope's number, and where the fault is.
+#![tactic(auto)]
+
 ghost use Rattle.std.specs.Prelude.{◌≡◌};
 ghost use Rattle.refusal.specs.Forms.{plain, none, too_short, broken, out_of_range, few_ids, bad_report, bad_frame, no_path, unknown_kind};
 

@@ -36,7 +36,7 @@ pub record Fine (touch : Cell → Cell → Bool) (open' : List ℕ) (s : Groups)
   pub joined : {a b : Cell} {g : ℕ} → At same s.ids a g → At same s.ids b g → (Mem g open' → ⊥) → Path touch (In same s.ids) a b
 
 -- A path never leaves a group.
-pub along : {touch : Cell → Cell → Bool} {gs : List ℕ} {s : Groups} → Fine touch gs s → {a b : Cell} {g : ℕ} → At same s.ids a g → Path touch (In same s.ids) a b → At same s.ids b g
+pub along : {touch : Cell → Cell → Bool} {gs : List ℕ} {s : Groups} → Fine touch gs s → {b a : Cell} {g : ℕ} → At same s.ids a g → Path touch (In same s.ids) a b → At same s.ids b g
 along {s = s} ok {g = g} p (stop d e) = subst (λ x. At same s.ids x g) e p
 along {touch} {s = s} ok {g = g} p (step {c = x} d t (stop d' e)) = subst (λ y. At same s.ids y g) e (subst (λ h. At same s.ids x h) (sym (ok.edge p d'.1 t)) d'.1)
 along {touch} {s = s} ok {g = g} p (step {c = x} d t (step d' t' w)) = along ok (subst (λ h. At same s.ids x h) (sym (ok.edge p d'.1 t)) d'.1) (step d' t' w)

@@ -80,7 +80,7 @@ module _ (touch : Cell → Cell → Bool) (among : List Cell) (among-once : Once
         (visit-closed list list-once among among-once list-in (length among) (seed ∷ []) (seed ∷ []) lasts (subst (λ l. Mem a l) whole-visit m) k))
 
     -- A path from a cell that comes leads to one that comes.
-    along : {a b : Cell} → Mem a (whole_flood touch among seed) → Joined touch among a b → Mem b (whole_flood touch among seed)
+    along : {b a : Cell} → Mem a (whole_flood touch among seed) → Joined touch among a b → Mem b (whole_flood touch among seed)
     along m (stop d e) = mem-cast (sym e) m
     along {a} m (step d t w) = along (whole-closed m (keep-in (touch a) (first touch w) t)) w
 

@@ -13,7 +13,7 @@ use Rattle.model.specs.Laws.Tests.{decided, T_true, T_false, cond_yes, cond_no, 
 -- The largest group is one of them.
 pub largest-in : (ids : Ids) (g : ℕ) (gs : List ℕ) → Mem (largest_group ids g gs) (g ∷ gs)
 largest-in ids g [] = head refl
-largest-in ids g (h ∷ hs) = go (ltb (size ids g) (size ids h)) (largest-in ids _ hs)
+largest-in ids g (h ∷ hs) = go (ltb (size ids g) (size ids h)) (largest-in ids (cond (ltb (size ids g) (size ids h)) h g) hs)
   where
     go : (b : Bool) → Mem (largest_group ids (cond b h g) hs) (cond b h g ∷ hs) → Mem (largest_group ids (cond b h g) hs) (g ∷ h ∷ hs)
     go true m = tail m

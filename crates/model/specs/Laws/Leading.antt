@@ -13,7 +13,7 @@ use Rattle.model.specs.Laws.Orders.{cells, asym, lt-differ}
 use Rattle.model.specs.Laws.Members.{mem-or, Once, once-nil, once-cons, once-tail}
 
 -- The last cell of a path is in D, as the first is.
-pub last : (touch : Cell → Cell → Bool) {D : Cell → Type 0} {a b : Cell} → Path touch D a b → D b
+pub last : (touch : Cell → Cell → Bool) {D : Cell → Type 0} {b a : Cell} → Path touch D a b → D b
 last touch {D} (stop d e) = subst D e d
 last touch (step d t w) = last touch w
 

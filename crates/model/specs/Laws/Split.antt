@@ -36,9 +36,9 @@ module _ (touch : Cell → Cell → Bool) (flip : (a b : Cell) → T (touch a b)
         ascending-in numbers _ (each_in (λ (q : Cell × ℕ). q.1) (keep-in (λ (q : Cell × ℕ). any (λ d. touch d q.0) emptied) (at_mem cells left p) (any-in (λ d. touch d a) m t)))
 
     -- A path in a group that is not affected stays.
-    stay : {a b : Cell} {g : ℕ} → At same left a g → (Mem g (affected touch emptied left) → ⊥) → Path touch (In same s.ids) a b → Path touch (In same left) a b
+    stay : {b a : Cell} {g : ℕ} → At same left a g → (Mem g (affected touch emptied left) → ⊥) → Path touch (In same s.ids) a b → Path touch (In same left) a b
     stay {g = g} p n (stop d e) = stop (g, p) e
-    stay {a} {b} {g} p n (step {c = x} d t w) =
+    stay {b} {a} {g} p n (step {c = x} d t w) =
         ⊎_elim (λ u. absurd (n (affected-in p (of-has cells emptied u) (flip a x t))))
         (λ u. step (g, p) t (stay (at_x u) n w))
         (decided (has same emptied x))

@@ -68,7 +68,7 @@ module _ (touch : Cell → Cell → Bool) where
   takes-other (p ∷ ps) s q n = takes-other ps (take_next touch s p) (take-other s p q (n p (head refl))) (λ x m. n x (tail m))
 
   -- A cell of the k-th of pieces that are apart has the k-th of the next ids.
-  pub nth-takes : {ps : List (List Cell)} {k : ℕ} {p : List Cell} (s : Groups) → Nth p ps k → Pairs Apart ps → {a : Cell} → In same s.ids a → Mem a p → At same (run (take_next touch) s ps).ids a (s.next + k)
+  pub nth-takes : {p : List Cell} {ps : List (List Cell)} {k : ℕ} (s : Groups) → Nth p ps k → Pairs Apart ps → {a : Cell} → In same s.ids a → Mem a p → At same (run (take_next touch) s ps).ids a (s.next + k)
   nth-takes {p = p} s (here {l}) apart {a} d m =
       subst (λ h. At same (run (take_next touch) s (p ∷ l)).ids a h) (omega arith)
       (takes-other l (take_next touch s p) (take-self s p d m) (λ q k j. pairs-head apart q k a m j))
@@ -77,7 +77,7 @@ module _ (touch : Cell → Cell → Bool) where
       (nth-takes (take_next touch s y) n (pairs-tail apart) (d.0, take-other s y d.1 (λ j. pairs-head apart _ (nth-mem n) a j m)) m)
 
   -- Who has the k-th of the next ids is of the k-th piece.
-  pub nth-takes-only : {ps : List (List Cell)} {k : ℕ} {p : List Cell} (s : Groups) → Nth p ps k → Under s → {a : Cell} → At same (run (take_next touch) s ps).ids a (s.next + k) → Mem a p
+  pub nth-takes-only : {p : List Cell} {ps : List (List Cell)} {k : ℕ} (s : Groups) → Nth p ps k → Under s → {a : Cell} → At same (run (take_next touch) s ps).ids a (s.next + k) → Mem a p
   nth-takes-only {p = p} s (here {l}) under {a} q =
       let e : s.next + 0 ≡ s.next = omega arith in
       let r = not-takes l (take_next touch s p) (subst (λ h. At same (run (take_next touch) s (p ∷ l)).ids a h) e q) (omega arith) in

@@ -44,9 +44,9 @@ view on s = record { ids = only on s.ids; next = s.next }
 
 module _ (touch : Cell → Cell → Bool) (on : Cell → Bool) (stays : (a b : Cell) → T (touch a b) → T (on a) → T (on b)) where
   -- A path does not leave the set.
-  pub path-on : {D : Cell → Type 0} {a b : Cell} → Path touch D a b → T (on a) → T (on b)
+  pub path-on : {D : Cell → Type 0} {b a : Cell} → Path touch D a b → T (on a) → T (on b)
   path-on (stop d e) o = subst (λ x. T (on x)) e o
-  path-on {D} {a} {b} (step {c = x} d t w) o = path-on w (stays a x t o)
+  path-on {D} {b} {a} (step {c = x} d t w) o = path-on w (stays a x t o)
 
   module _ (s : Groups) (ok : Fine touch [] s) (asc : Asc below (keys s.ids)) (c : Cell) where
     -- A group is in the set or outside it.

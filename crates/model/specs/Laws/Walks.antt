@@ -22,16 +22,16 @@ module _ (touch : Cell → Cell → Bool) where
   first (stop d e) = d
   first (step d t w) = d
 
-  pub wider : {D E : Cell → Type 0} → ((x : Cell) → D x → E x) → {a b : Cell} → Path touch D a b → Path touch E a b
+  pub wider : {D E : Cell → Type 0} → ((x : Cell) → D x → E x) → {b a : Cell} → Path touch D a b → Path touch E a b
   wider f (stop d e) = stop (f _ d) e
   wider f (step d t w) = step (f _ d) t (wider f w)
 
-  pub join : {D : Cell → Type 0} {a b c : Cell} → Path touch D a b → Path touch D b c → Path touch D a c
+  pub join : {D : Cell → Type 0} {b c a : Cell} → Path touch D a b → Path touch D b c → Path touch D a c
   join {D} {c = c} (stop d e) w = subst (λ x. PathTo touch D c x) (sym e) w
   join (step d t v) w = step d t (join v w)
 
   module _ (flip : (a b : Cell) → T (touch a b) → T (touch b a)) where
-    pub back : {D : Cell → Type 0} {a b : Cell} → Path touch D a b → Path touch D b a
+    pub back : {D : Cell → Type 0} {b a : Cell} → Path touch D a b → Path touch D b a
     back {D} (stop d e) = stop (subst D e d) (sym e)
     back (step d t w) = join (back w) (step (first w) (flip _ _ t) (stop d refl))
 

@@ -23,16 +23,16 @@ use Rattle.model.specs.Theorems.PathExact.{path-exact, path-none, path-unique}
 -- A set of cells that touching does not leave.
 module _ (touch : Cell → Cell → Bool) (set : Cell → Bool) (stays : (a b : Cell) → T (touch a b) → T (set a) → T (set b)) (among : List Cell) where
   -- A path from a cell of the set stays in it.
-  joined-set : {a b : Cell} → T (set a) → Joined touch among a b → Joined touch (keep set among) a b
+  joined-set : {b a : Cell} → T (set a) → Joined touch among a b → Joined touch (keep set among) a b
   joined-set u (stop d e) = stop (keep-in set d u) e
   joined-set u (step d t w) = step (keep-in set d u) t (joined-set (stays _ _ t u) w)
 
-  list_set : {a b : Cell} {p : List Cell} → T (set a) → IsPath touch among a b p → IsPath touch (keep set among) a b p
+  list_set : {b a : Cell} {p : List Cell} → T (set a) → IsPath touch among a b p → IsPath touch (keep set among) a b p
   list_set u (end d e) = end (keep-in set d u) e
   list_set u (on d t w) = on (keep-in set d u) t (list_set (stays _ _ t u) w)
 
   -- A path of the set is a path.
-  set-list : {a b : Cell} {p : List Cell} → IsPath touch (keep set among) a b p → IsPath touch among a b p
+  set-list : {b a : Cell} {p : List Cell} → IsPath touch (keep set among) a b p → IsPath touch among a b p
   set-list (end d e) = end (keep_out set among d).0 e
   set-list (on d t w) = on (keep_out set among d).0 t (set-list w)
 

@@ -120,7 +120,7 @@ module _ (entities : List (ℕ × Cell)) (c : Cell) (cs : List Cell) where
 
 module _ (touch : Cell → Cell → Bool) (laws : Touching touch) where
   -- A path stays on its grid.
-  one-grid : {D : Cell → Type 0} {a b : Cell} → Path touch D a b → a.grid ≡ b.grid
+  one-grid : {D : Cell → Type 0} {b a : Cell} → Path touch D a b → a.grid ≡ b.grid
   one-grid (stop d e) = ap (λ (c : Cell). c.grid) e
   one-grid (step {a} {c} d t w) = laws.one-grid a c t ∙ one-grid w
 

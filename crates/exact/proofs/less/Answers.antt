@@ -6,23 +6,22 @@ use lib.Ieee.Fits.{sub-fits}
 use Rattle.exact.specs.Units.{exact, nearest}
 use Rattle.exact.specs.Laws.Round.{plus, sub-exact}
 use Rattle.exact.specs.Laws.Tests.{zero-of-bits, zero-passed, zero-failed}
-use Rattle.exact.proofs.less.Statement.{statement}
+use Rattle.exact.proofs.less.Goals as goal
+use Rattle.exact.proofs.less.Lts as lts
 use Rattle.exact.proofs.less.Tie as tie
+use Rattle.exact.proofs.less.Reads as reads
 
-law : (s : tie.Start) → plus (sub binary64 s.args.a s.args.b) ≡ nearest (exact s.args.a -ℤ exact s.args.b)
+law : (s : lts.Start reads.Pre reads.Post) → plus (sub binary64 s.args.a s.args.b) ≡ nearest (exact s.args.a -ℤ exact s.args.b)
 law s = sub-exact s.args.a s.args.b s.requires.0.fits s.requires.1.fits s.requires.0.finite s.requires.1.finite
 
-returns : tie.Need-returns
+pub returns-then-d : goal.returns-then-d
+returns-then-d c =
+    let s = c.before in
+    let d = sub binary64 s.args.a s.args.b in
+    zero-of-bits ∙ zero-passed d (sub-fits binary64 s.args.a s.args.b) (ap (eq d) (sym zero-of-bits) ∙ c.if-d.true) ∙ law s
+
+pub returns : goal.returns
 returns c =
     let s = c.before in
     let d = sub binary64 s.args.a s.args.b in
-    zero-of-bits ∙ zero-passed d (sub-fits binary64 s.args.a s.args.b) (ap (eq d) (sym zero-of-bits) ∙ c.if1.true) ∙ law s
-
-returns-2 : tie.Need-returns-2
-returns-2 c =
-    let s = c.before in
-    let d = sub binary64 s.args.a s.args.b in
-    zero-failed d (ap (eq d) (sym zero-of-bits) ∙ c.if1.false) ∙ law s
-
-pub less-spec : {M : Type 1} → statement M
-less-spec = tie.close (tie.spec returns returns-2)
+    zero-failed d (ap (eq d) (sym zero-of-bits) ∙ c.if-d.false) ∙ law s
