@@ -1,4 +1,6 @@
 // The script: records read from bytes, and lines written as bytes.
+#![tactic(auto)]
+
 mod kinds;
 mod lines;
 mod records;

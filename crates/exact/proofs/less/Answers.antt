@@ -11,8 +11,8 @@ use Rattle.exact.proofs.less.Lts as lts
 use Rattle.exact.proofs.less.Tie as tie
 use Rattle.exact.proofs.less.Reads as reads
 
-law : (s : lts.Start reads.Pre reads.Post) → plus (sub binary64 s.args.a s.args.b) ≡ nearest (exact s.args.a -ℤ exact s.args.b)
-law s = sub-exact s.args.a s.args.b s.requires.0.fits s.requires.1.fits s.requires.0.finite s.requires.1.finite
+law : (s : lts.Start reads.Pre reads.Post tie.handed_clauses) → plus (sub binary64 s.args.a s.args.b) ≡ nearest (exact s.args.a -ℤ exact s.args.b)
+law s = sub-exact s.args.a s.args.b s.requires.fact_1.fits s.requires.fact_2.fits s.requires.fact_1.finite s.requires.fact_2.finite
 
 pub returns-then-d : goal.returns-then-d
 returns-then-d c =

@@ -6,7 +6,7 @@ use Rattle.exact.specs.Laws.Whole.{sized-neg, sized-self}
 use Rattle.exact.proofs.size.Goals as goal
 
 pub returns-then-x : goal.returns-then-x
-returns-then-x c = let x = c.before.args.x in sized-neg x c.before.requires (ap (lt x) (sym zero-of-bits) ∙ c.if-x.true)
+returns-then-x c = let x = c.args.x in sized-neg x c.requires (ap (lt x) (sym zero-of-bits) ∙ c.if-x.true)
 
 pub returns : goal.returns
-returns c = let x = c.before.args.x in sized-self x c.before.requires (ap (lt x) (sym zero-of-bits) ∙ c.if-x.false)
+returns c = let x = c.args.x in sized-self x c.requires (ap (lt x) (sym zero-of-bits) ∙ c.if-x.false)
