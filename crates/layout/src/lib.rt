@@ -1,4 +1,6 @@
 // The words of the state: every limit, width and place, the state cut into its tables, and the numbers that stand for neighbours.
+#![tactic(auto)]
+
 ghost use Rattle.std.specs.Prelude.{◌≡◌, true, ◌-◌, ◌<◌, get_or};
 ghost use Rattle.layout.specs.Widths.{header_len};
 ghost use Rattle.layout.specs.State.{state_len, spare_words, entity_words, cell_words, occupied_words, emptied_words, id_words, group_words};

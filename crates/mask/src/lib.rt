@@ -1,4 +1,6 @@
 // Masks: a number a cell whose bit k, k from 0 to 25, tells of the k-th of its 26 neighbours.
+#![tactic(auto)]
+
 ghost use Rattle.std.specs.Prelude.{◌≡◌, ◌<◌, ◌^◌};
 ghost use Rattle.std.specs.Int.Count.{ones};
 ghost use Rattle.model.specs.Masks.{bit, with_bit, without_bit};

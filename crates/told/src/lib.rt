@@ -1,1 +1,2 @@
 // An answer as document 01 tells it; the definitions and their laws stand in specs/.
+#![tactic(auto)]

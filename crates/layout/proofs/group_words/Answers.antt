@@ -1,0 +1,11 @@
+-- The part of the words of a state.
+use native.Mathlib.Omega.{arith}
+use borrow.Author.Rules.{rules}
+use Rattle.layout.specs.State.{groups_from, groups_len, state_len}
+use Rattle.layout.specs.Laws.Lengths.{groups-end}
+use Rattle.layout.specs.Laws.Cut.{whole, part_of}
+use Rattle.layout.proofs.group_words.Goals as goal
+
+pub returns : goal.returns
+unfolding groups_from groups_len state_len
+returns c = let s = c in part_of s.args.state.now groups_from groups_len state_len groups-end (omega (arith, whole s.args.state.now s.requires))

@@ -1,0 +1,11 @@
+-- The part of the words of a state.
+use native.Mathlib.Omega.{arith}
+use borrow.Author.Rules.{rules}
+use Rattle.layout.specs.State.{ids_from, ids_len, groups_from, state_len}
+use Rattle.layout.specs.Laws.Lengths.{ids-end}
+use Rattle.layout.specs.Laws.Cut.{whole, part_of}
+use Rattle.layout.proofs.id_words.Goals as goal
+
+pub returns : goal.returns
+unfolding ids_from ids_len groups_from state_len
+returns c = let s = c in part_of s.args.state.now ids_from ids_len groups_from ids-end (omega (arith, whole s.args.state.now s.requires))

@@ -1,0 +1,13 @@
+-- The part of the words of a state.
+use native.Mathlib.Omega.{arith}
+use Prim.Native.Nat.{◌-◌}
+use borrow.Author.Rules.{rules}
+use Rattle.layout.specs.Widths.{header_len, spare}
+use Rattle.layout.specs.State.{entities_from, state_len}
+use Rattle.layout.specs.Laws.Lengths.{header-end}
+use Rattle.layout.specs.Laws.Cut.{whole, part_of}
+use Rattle.layout.proofs.spare_words.Goals as goal
+
+pub returns : goal.returns
+unfolding entities_from state_len
+returns c = let s = c in part_of s.args.state.now spare (header_len - spare) entities_from header-end (omega (arith, whole s.args.state.now s.requires))
