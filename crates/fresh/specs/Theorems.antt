@@ -6,8 +6,8 @@ use Rattle.std.proofs.Math.Bool.{true, false}
 use Rattle.refusal.specs.declared.Refusal.{Refusal}
 use Rattle.model.specs.Cells.{is_kind}
 use Rattle.model.specs.Update.{few_ids, fresh}
-use Rattle.model.specs.Laws.Tests.{T_true}
-use Rattle.model.specs.Theorems.Kinds.{consistent-fresh-kind}
+use Rattle.model.proofs.Laws.Tests.{T_true}
+use Rattle.model.proofs.Theorems.Kinds.{consistent-fresh-kind}
 use Rattle.layout.specs.State.{state_len, decode}
 use Rattle.layout.specs.Points.{long_enough, consistent_words}
 use Rattle.layout.specs.Theorems.DecodeEncode.{decode-longer}

@@ -9,11 +9,11 @@ use lib.ListN.{length}
 use Rattle.model.specs.Lists.{each, put, drop_key, without}
 use Rattle.model.specs.Cells.{Cell, same, touch_at}
 use Rattle.model.specs.Occupancy.{Occupancy, occupied, stands_in, with_entities, close_cell, enter, leave}
-use Rattle.model.specs.Laws.Orders.{numbers}
-use Rattle.model.specs.Laws.Members.{each-length, keep-shorter}
-use Rattle.model.specs.Laws.Sorted.{Asc}
-use Rattle.model.specs.Laws.Tables.{keys_length, free_of, get-drop-self, put-length-new, put-length-old, drop-length}
-use Rattle.model.specs.Laws.Occupied.{occupied-leave}
+use Rattle.model.proofs.Laws.Orders.{numbers}
+use Rattle.model.proofs.Laws.Members.{each-length, keep-shorter}
+use Rattle.model.proofs.Laws.Sorted.{Asc}
+use Rattle.model.proofs.Laws.Tables.{keys_length, free_of, get-drop-self, put-length-new, put-length-old, drop-length}
+use Rattle.model.proofs.Laws.Occupied.{occupied-leave}
 use Rattle.layout.specs.Widths.{entity_width}
 use Rattle.layout.specs.Rows.{entity_row, entities_image}
 use Rattle.layout.specs.Laws.Rows.{entities-wide}

@@ -11,11 +11,11 @@ use Rattle.model.specs.Lists.{each, keys, get, put, drop_key}
 use Rattle.model.specs.Cells.{Cell, same, below, touch_at}
 use Rattle.model.specs.Occupancy.{Occupancy, occupied, stands_in, with_entities, open_cell, close_cell, enter, leave}
 use Rattle.model.specs.Crowd.{how_many}
-use Rattle.model.specs.Laws.Tests.{T_false, true_of, false_of, nltb-of}
-use Rattle.model.specs.Laws.Members.{each-length}
-use Rattle.model.specs.Laws.Sorted.{Asc}
-use Rattle.model.specs.Laws.Tables.{keys_length}
-use Rattle.model.specs.Laws.Occupied.{not-occupied, at-occupied, occupied-asc}
+use Rattle.model.proofs.Laws.Tests.{T_false, true_of, false_of, nltb-of}
+use Rattle.model.proofs.Laws.Members.{each-length}
+use Rattle.model.proofs.Laws.Sorted.{Asc}
+use Rattle.model.proofs.Laws.Tables.{keys_length}
+use Rattle.model.proofs.Laws.Occupied.{not-occupied, at-occupied, occupied-asc}
 use Rattle.layout.specs.Widths.{crowd_width}
 use Rattle.layout.specs.Rows.{id_row, ids_image}
 use Rattle.layout.specs.Laws.Rows.{ids-wide}

@@ -9,9 +9,9 @@ use lib.Dec.{eqb}
 use Rattle.model.specs.Lists.{get, run}
 use Rattle.model.specs.Cells.{Cell, same, cell_in_range, touch_at}
 use Rattle.model.specs.Occupancy.{Occupancy, leaves_from, is_at, enters, pass, enter, leave}
-use Rattle.model.specs.Laws.Tests.{T_true}
-use Rattle.model.specs.Laws.Orders.{numbers}
-use Rattle.model.specs.Laws.Tables.{free_of}
+use Rattle.model.proofs.Laws.Tests.{T_true}
+use Rattle.model.proofs.Laws.Orders.{numbers}
+use Rattle.model.proofs.Laws.Tables.{free_of}
 use Rattle.table.specs.Rows.{cell_words, table1}
 use Rattle.layout.specs.Widths.{entity_width}
 use Rattle.map.specs.declared.Counts.{Counts}

@@ -11,10 +11,10 @@ use Rattle.component.specs.Order.{same, below}
 use Rattle.component.specs.declared.Cell.{Cell}
 use Rattle.model.specs.Lists.{has, each, keys, put, drop_key, change}
 use Rattle.model.specs.Masks.{with_bit, without_bit}
-use Rattle.model.specs.Laws.Tests.{T_true}
-use Rattle.model.specs.Laws.Orders.{cells}
-use Rattle.model.specs.Laws.Members.{of-hasnt, each-length}
-use Rattle.model.specs.Laws.Tables.{At, free_of, key-free, drop-free, asc-fair, free-key}
+use Rattle.model.proofs.Laws.Tests.{T_true}
+use Rattle.model.proofs.Laws.Orders.{cells}
+use Rattle.model.proofs.Laws.Members.{of-hasnt, each-length}
+use Rattle.model.proofs.Laws.Tables.{At, free_of, key-free, drop-free, asc-fair, free-key}
 use Rattle.table.specs.declared.Place.TheVariants.{Found, Missing}
 use Rattle.table.specs.Moves.{over}
 use Rattle.table.specs.Rows.{cell, cell_at, table4, stored4, is_table4, place_of}

@@ -8,7 +8,7 @@ use lib.ListN.{length, get_or, replicate}
 use Rattle.model.specs.Lists.{each, get, put}
 use Rattle.model.specs.Cells.{Cell, same, below}
 use Rattle.model.specs.Crowd.{how_many}
-use Rattle.model.specs.Laws.Members.{each-length}
+use Rattle.model.proofs.Laws.Members.{each-length}
 use Rattle.layout.specs.Widths.{crowd_width, entity_cell, entity_width}
 use Rattle.layout.specs.Rows.{id_row, entities_in, ids_image}
 use Rattle.table.specs.Rows.{cell, cell_at, rows_of, table4, stored4, has_room4}

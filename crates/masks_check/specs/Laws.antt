@@ -5,7 +5,7 @@ use Rattle.model.specs.Lists.{keys}
 use Rattle.model.specs.Cells.{Cell, offsets_of, touch_at}
 use Rattle.model.specs.Masks.{with_bit, mask_of}
 use Rattle.model.specs.Places.{slot, place_in}
-use Rattle.model.specs.Laws.Slots.{slot-low, slot-high, mask_end, mask-none}
+use Rattle.model.proofs.Laws.Slots.{slot-low, slot-high, mask_end, mask-none}
 use Rattle.table.specs.Rows.{cell, cell_at, rows_of, table4}
 use Rattle.table.specs.Laws.Words.{word_at, rest_at}
 use Rattle.layout.specs.Widths.{cell_mask, cell_width}

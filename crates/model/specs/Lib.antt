@@ -9,10 +9,8 @@ pub mod Update
 pub mod Shortest
 pub mod Questions
 pub mod Consistent
-pub mod Cases
 pub mod Paths
 pub mod Runs
 pub mod Counted
 pub mod Crowd
-pub mod Laws
-pub mod Theorems
+pub mod Shared

@@ -16,8 +16,8 @@ use mathlib.Core.List.Memᴰ.{not-nil as mem-nil}
 use mathlib.Core.List.Memᴰ.{tail}
 use mathlib.Core.List.{List, [], ◌∷◌, ◌++◌, append_assoc, append-nil, Memᴰ as Mem}
 use lib.ListN.{length, get_or, length-append}
-use Rattle.model.specs.Laws.Orders.{numbers}
-use Rattle.model.specs.Laws.Members.{mem-or}
+use Rattle.model.proofs.Laws.Orders.{numbers}
+use Rattle.model.proofs.Laws.Members.{mem-or}
 use Rattle.neighbourhood.specs.Rows.{onward}
 use Rattle.neighbourhood.specs.Standing.{Levels}
 

@@ -19,10 +19,10 @@ use Rattle.model.specs.Lists.{keep, has, each, keys, count}
 use Rattle.model.specs.Cells.{Cell, same, touch_at}
 use Rattle.model.specs.Masks.{bit, leads_to}
 use Rattle.model.specs.Groups.{reach, part}
-use Rattle.model.specs.Laws.Tests.{and-fst, and-snd, and_both, same_test, cond_yes, cond_no, eqb_of}
-use Rattle.model.specs.Laws.Orders.{cells, numbers, same_of, differ}
-use Rattle.model.specs.Laws.Members.{keep-in, keep_out, keep-length, each_in, each-out, each_append, each-length, count-length, has_of, hasnt-of, mem-or, Once, once-nil, once-cons, once-keep, once-append, once-shorter}
-use Rattle.model.specs.Laws.Reaching.{flood-part}
+use Rattle.model.proofs.Laws.Tests.{and-fst, and-snd, and_both, same_test, cond_yes, cond_no, eqb_of}
+use Rattle.model.proofs.Laws.Orders.{cells, numbers, same_of, differ}
+use Rattle.model.proofs.Laws.Members.{keep-in, keep_out, keep-length, each_in, each-out, each_append, each-length, count-length, has_of, hasnt-of, mem-or, Once, once-nil, once-cons, once-keep, once-append, once-shorter}
+use Rattle.model.proofs.Laws.Reaching.{flood-part}
 use Rattle.model.specs.Places.{offset_at}
 use Rattle.table.specs.Rows.{table4}
 use Rattle.layout.specs.Widths.{cell_width}

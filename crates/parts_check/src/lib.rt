@@ -2,7 +2,7 @@
 ghost use Rattle.std.specs.Prelude.{◌≡◌, ℕ, ◌*◌, ◌≤◌, ◌<◌, length, List};
 ghost use Rattle.model.specs.Lists.{all, keys, count};
 ghost use Rattle.model.specs.Cells.{Cell as CellOf, touch_at};
-ghost use Rattle.model.specs.Laws.Shared.{shared_in};
+ghost use Rattle.model.specs.Shared.{shared_in};
 ghost use Rattle.neighbourhood.specs.Standing.{Cells, HasTable};
 ghost use Rattle.table.specs.Rows.{table4};
 ghost use Rattle.model.specs.Update.{most_cells};

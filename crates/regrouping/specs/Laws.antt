@@ -5,8 +5,8 @@ use Rattle.model.specs.Lists.{each, keys}
 use Rattle.model.specs.Cells.{Cell}
 use Rattle.model.specs.Crowd.{how_many}
 use Rattle.model.specs.Groups.{Ids}
-use Rattle.model.specs.Laws.Members.{each-length}
-use Rattle.model.specs.Laws.Tables.{keys_length}
+use Rattle.model.proofs.Laws.Members.{each-length}
+use Rattle.model.proofs.Laws.Tables.{keys_length}
 use Rattle.partition.specs.Held.{HeldTable, HeldCounts, row_in}
 use Rattle.partition.specs.Laws.Held.{plain_at, each-drop}
 use Rattle.regrouping.specs.Regrouping.{Counted}

@@ -6,7 +6,7 @@ use mathlib.Core.List.{List, ◌∷◌, ◌++◌, append_assoc}
 use lib.ListN.{length, take, drop, replicate, length-append, length-drop, take-append-drop, replicate-append-replicate}
 use lib.Seq.{slice, length-slice, drop-drop, length-take-le, drop-append-le}
 use Rattle.model.specs.Lists.{gather}
-use Rattle.model.specs.Laws.Members.{gather_append}
+use Rattle.model.proofs.Laws.Members.{gather_append}
 use Rattle.table.specs.Moves.{over, inserted, closed}
 use Rattle.table.specs.Rows.{Kind, row_of, table_of, image_of, stored_of}
 use Rattle.table.specs.Laws.Kinds.{Lawful}

@@ -12,7 +12,7 @@ use Rattle.model.specs.Flood.{flood}
 use Rattle.model.specs.Update.{touch_of}
 use Rattle.model.specs.Questions.{Listed, id_list, nearby, nearby_by, cube}
 use Rattle.model.specs.Questions as question
-use Rattle.model.specs.Laws.Occupied.{occupied-stands}
+use Rattle.model.proofs.Laws.Occupied.{occupied-stands}
 use Rattle.model.specs.Shortest.{shown_path}
 use Rattle.layout.specs.Rows.{entities_in, cells_in, net_in, groups_in}
 use Rattle.layout.specs.State.{decode, entity_words, cell_words, occupied_words, emptied_words, group_words, entity_count, cell_count, occupied_count, emptied_count, group_count}

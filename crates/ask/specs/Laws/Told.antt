@@ -7,7 +7,7 @@ use Rattle.component.specs.declared.CellId.{CellId}
 use Rattle.component.specs.Coord.{bad_axis, coord_in_range}
 use Rattle.refusal.specs.declared.Refusal.{Refusal}
 use Rattle.refusal.specs.Forms.{none, too_short, broken, out_of_range}
-use Rattle.model.specs.Laws.Tests.{T_true}
+use Rattle.model.proofs.Laws.Tests.{T_true}
 use Rattle.layout.specs.Points.{long_enough, consistent_words, first_broken}
 use Rattle.told.specs.Told.{done, refused, unless, fitted, unless_refused}
 use Rattle.told.specs.Exactly.{Exactly}

@@ -10,7 +10,7 @@ use Rattle.component.specs.Range.{cell_in_range}
 use Rattle.component.specs.Laws.Range.{range-of-stored}
 use Rattle.refusal.specs.declared.Refusal.{Refusal}
 use Rattle.refusal.specs.Forms.{none, too_short, broken, out_of_range}
-use Rattle.model.specs.Laws.Tests.{neqb→ne, T_true, T_false}
+use Rattle.model.proofs.Laws.Tests.{neqb→ne, T_true, T_false}
 use Rattle.layout.specs.Points.{long_enough, consistent_words, first_broken}
 use Rattle.told.specs.Laws.Ways.{refused-way, answered-way}
 use Rattle.consistent.specs.Answer.{state_refusal}

@@ -9,14 +9,14 @@ use Rattle.model.specs.Cells.{Cell, below}
 use Rattle.model.specs.Groups.{Group, records}
 use Rattle.model.specs.Update.{most_entities, most_cells, touch_of}
 use Rattle.model.specs.Consistent.{consistent_by, kind_known}
-use Rattle.model.specs.Laws.Tests.{T_true, true_of, and-snd}
-use Rattle.model.specs.Laws.Orders.{numbers}
-use Rattle.model.specs.Laws.Members.{each-each}
-use Rattle.model.specs.Laws.Sorted.{Asc, is_ascending-in, ascending-asc}
-use Rattle.model.specs.Laws.Records.{records-keys}
-use Rattle.model.specs.Laws.Occupied.{occupied-asc}
-use Rattle.model.specs.Laws.Kinds.{kind-touching}
-use Rattle.model.specs.Laws.Consistency.{Ok, ok_out, ids-asc}
+use Rattle.model.proofs.Laws.Tests.{T_true, true_of, and-snd}
+use Rattle.model.proofs.Laws.Orders.{numbers}
+use Rattle.model.proofs.Laws.Members.{each-each}
+use Rattle.model.proofs.Laws.Sorted.{Asc, is_ascending-in, ascending-asc}
+use Rattle.model.proofs.Laws.Records.{records-keys}
+use Rattle.model.proofs.Laws.Occupied.{occupied-asc}
+use Rattle.model.proofs.Laws.Kinds.{kind-touching}
+use Rattle.model.proofs.Laws.Consistency.{Ok, ok_out, ids-asc}
 use Rattle.table.specs.Rows.{Kind, number, cell, table_of, is_table_of, is_table1, is_table4, table1, table4, are_zero}
 use Rattle.layout.specs.Widths.{entity_width, cell_width, net_width, id_width, group_width}
 use Rattle.layout.specs.Rows.{entity_of, id_of, group_of, cells_image, entities_in, cells_in, ids_in, groups_in}

@@ -14,7 +14,7 @@ use Rattle.model.specs.Flood.{flood}
 use Rattle.model.specs.Update.{touch_of}
 use Rattle.model.specs.Questions.{entities_in, id_list, nearby, cube}
 use Rattle.model.specs.Shortest.{shown_path}
-use Rattle.model.specs.Laws.Tests.{T_false}
+use Rattle.model.proofs.Laws.Tests.{T_false}
 use Rattle.layout.specs.State.{decode}
 use Rattle.neighbourhood.specs.Answers.{answer_words}
 use Rattle.told.specs.Told.{Told, done, too_long, refused, fitted}

@@ -5,7 +5,7 @@ use Rattle.component.specs.Laws.Tests.{both}
 use Rattle.model.specs.Cells.{is_kind}
 use Rattle.model.specs.Update.{touch_of}
 use Rattle.model.specs.Consistent.{consistent_by, kind_known}
-use Rattle.model.specs.Laws.Tests.{neqb→ne, T_true, T_false}
+use Rattle.model.proofs.Laws.Tests.{neqb→ne, T_true, T_false}
 use Rattle.layout.specs.State.{decode}
 use Rattle.layout.specs.Laws.Orderly.{orderly-out}
 use Rattle.told.specs.Told.{Beside, values, needed, place, Told, done, refused}

@@ -9,7 +9,7 @@ use Rattle.model.specs.Lists.{all}
 use Rattle.model.specs.Cells.{Cell}
 use Rattle.model.specs.Occupancy.{Batch}
 use Rattle.model.specs.Update.{most_events, last_next, too_many_events, out_of_range, few_ids}
-use Rattle.model.specs.Laws.Tests.{T_true, cond_no, neqb-of}
+use Rattle.model.proofs.Laws.Tests.{T_true, cond_no, neqb-of}
 use Rattle.layout.specs.Widths.{move_width}
 use Rattle.batch.specs.Words.{move_at, moves_in, batch_of, early}
 use Rattle.batch.specs.Places.{ranged, first_out, batch_refusal}

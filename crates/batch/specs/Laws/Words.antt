@@ -10,7 +10,7 @@ use Rattle.model.specs.Lists.{all, each}
 use Rattle.model.specs.Cells.{Cell, cell_in_range}
 use Rattle.model.specs.Occupancy.{remove, move_to, events}
 use Rattle.model.specs.Update.{most_events, last_next, too_many_events, out_of_range, few_ids}
-use Rattle.model.specs.Laws.Members.{each-length}
+use Rattle.model.proofs.Laws.Members.{each-length}
 use Rattle.layout.specs.Widths.{move_width}
 use Rattle.batch.specs.Words.{move_at, moves_in, batch_of, early}
 

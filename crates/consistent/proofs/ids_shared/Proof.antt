@@ -6,7 +6,7 @@ use Prim.Native.Nat.{ℕ}
 use lib.ListN.{length}
 use Rattle.model.specs.Lists.{keys}
 use Rattle.model.specs.Cells.{touch_at}
-use Rattle.model.specs.Laws.Shared.{shared_in}
+use Rattle.model.specs.Shared.{shared_in}
 use Rattle.table.specs.Rows.{table4}
 use Rattle.layout.specs.Widths.{cell_width, id_width}
 use Rattle.layout.specs.Rows.{cells_in, ids_in}

@@ -9,12 +9,12 @@ use Rattle.model.specs.Lists.{all, has, keys, values, is_ascending}
 use Rattle.model.specs.Cells.{Cell, same, below, is_kind, touch_at}
 use Rattle.model.specs.Masks.{mask_of, masked}
 use Rattle.model.specs.Update.{most_entities, most_cells}
-use Rattle.model.specs.Laws.Tests.{T_true, true_of}
-use Rattle.model.specs.Laws.Orders.{cells}
-use Rattle.model.specs.Laws.Members.{all-in, all-out, has_of}
-use Rattle.model.specs.Laws.Sorted.{Asc, ascending-in}
-use Rattle.model.specs.Laws.Masks.{rows-of-keys}
-use Rattle.model.specs.Laws.Shared.{shared_in}
+use Rattle.model.proofs.Laws.Tests.{T_true, true_of}
+use Rattle.model.proofs.Laws.Orders.{cells}
+use Rattle.model.proofs.Laws.Members.{all-in, all-out, has_of}
+use Rattle.model.proofs.Laws.Sorted.{Asc, ascending-in}
+use Rattle.model.proofs.Laws.Masks.{rows-of-keys}
+use Rattle.model.specs.Shared.{shared_in}
 use Rattle.table.specs.Rows.{cell, are_zero, table1, table4, is_table1, is_table4, is_table_of}
 use Rattle.table.specs.Laws.Words.{keys_length}
 use Rattle.table.specs.Laws.Images.{table-facts}

@@ -3,7 +3,7 @@ use Rattle.std.specs.Prelude.{ℕ, ◌≤◌, ◌<◌, ◌≡◌, Bool, true, fa
 use Rattle.std.proofs.Math.Path.{sym}
 use Rattle.std.proofs.Common.{ap, ◌∙◌, subst, le-leb}
 use Rattle.std.proofs.lemmas.Bool.{lt-leb}
-use Rattle.model.specs.Laws.Tests.{cond_yes, cond_no, eqb_of, neqb-of}
+use Rattle.model.proofs.Laws.Tests.{cond_yes, cond_no, eqb_of, neqb-of}
 use Rattle.refusal.specs.declared.Refusal.{Refusal}
 use Rattle.refusal.specs.Forms.{none, too_short, broken}
 use Rattle.layout.specs.State.{state_len}

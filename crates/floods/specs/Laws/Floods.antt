@@ -8,11 +8,11 @@ use Rattle.component.specs.Laws.Tests.{le-or-lt}
 use Rattle.model.specs.Lists.{has, keys, gather}
 use Rattle.model.specs.Cells.{Cell, same, touch_at}
 use Rattle.model.specs.Flood.{Flood, Depth, flood_cells, whole_flood, flood}
-use Rattle.model.specs.Laws.Tests.{T_false}
-use Rattle.model.specs.Laws.Orders.{cells}
-use Rattle.model.specs.Laws.Members.{of-hasnt}
-use Rattle.model.specs.Laws.Floods.{whole-none, whole-visit}
-use Rattle.model.specs.Theorems.FloodExact.{flood-nothing}
+use Rattle.model.proofs.Laws.Tests.{T_false}
+use Rattle.model.proofs.Laws.Orders.{cells}
+use Rattle.model.proofs.Laws.Members.{of-hasnt}
+use Rattle.model.proofs.Laws.Floods.{whole-none, whole-visit}
+use Rattle.model.proofs.Theorems.FloodExact.{flood-nothing}
 use Rattle.model.specs.Update.{most_cells}
 use Rattle.layout.specs.Widths.{answer_width}
 use Rattle.layout.specs.Rows.{cells_in}

@@ -3,7 +3,7 @@ use Prim.Native.Nat.{ℕ, ◌+◌}
 use mathlib.Core.Path.{◌≡◌, sym, ap, ◌∙◌}
 use borrow.Author.Rules.{rules}
 use Rattle.model.specs.Cells.{kind_allows, offsets_of}
-use Rattle.model.specs.Laws.Slots.{offset_of, offset-is}
+use Rattle.model.proofs.Laws.Slots.{offset_of, offset-is}
 use Rattle.kinds.proofs.has_offset.Goals as goal
 
 pub returns : goal.returns

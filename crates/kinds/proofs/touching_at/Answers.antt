@@ -5,7 +5,7 @@ use mathlib.Core.Bool.{◌&&◌}
 use borrow.Author.Rules.{rules}
 use Rattle.component.specs.Touch.{touches}
 use Rattle.model.specs.Cells.{kind_allows}
-use Rattle.model.specs.Laws.Kinds.{touch-kind}
+use Rattle.model.proofs.Laws.Kinds.{touch-kind}
 use Rattle.kinds.proofs.touching_at.Goals as goal
 
 pub returns : goal.returns

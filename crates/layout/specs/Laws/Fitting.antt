@@ -10,14 +10,14 @@ use Rattle.model.specs.Occupancy.{occupied}
 use Rattle.model.specs.Groups.{Ids, records}
 use Rattle.model.specs.Update.{State, most_cells, touch_of}
 use Rattle.model.specs.Consistent.{consistent_by, kind_known, consistent}
-use Rattle.model.specs.Laws.Tests.{true_of, and-snd}
-use Rattle.model.specs.Laws.Orders.{numbers, cells}
-use Rattle.model.specs.Laws.Members.{each-length}
-use Rattle.model.specs.Laws.Sorted.{ascending-length, ascending-out}
-use Rattle.model.specs.Laws.Tables.{keys_length}
-use Rattle.model.specs.Laws.Records.{records-keys}
-use Rattle.model.specs.Laws.Kinds.{kind-touching}
-use Rattle.model.specs.Laws.Consistency.{Ok, ok_out}
+use Rattle.model.proofs.Laws.Tests.{true_of, and-snd}
+use Rattle.model.proofs.Laws.Orders.{numbers, cells}
+use Rattle.model.proofs.Laws.Members.{each-length}
+use Rattle.model.proofs.Laws.Sorted.{ascending-length, ascending-out}
+use Rattle.model.proofs.Laws.Tables.{keys_length}
+use Rattle.model.proofs.Laws.Records.{records-keys}
+use Rattle.model.proofs.Laws.Kinds.{kind-touching}
+use Rattle.model.proofs.Laws.Consistency.{Ok, ok_out}
 use Rattle.layout.specs.Facts.{Fits}
 
 -- There are no more group records than cells with an id.

@@ -10,8 +10,8 @@ use mathlib.Core.List.{List, [], ◌++◌, Memᴰ as Mem}
 use Rattle.std.proofs.Math.ListN.{length, take, replicate}
 use Rattle.model.specs.Lists.{each, gather}
 use Rattle.model.specs.Cells.{Cell}
-use Rattle.model.specs.Laws.Tests.{T_true}
-use Rattle.model.specs.Laws.Members.{each-each, each_same, each-length}
+use Rattle.model.proofs.Laws.Tests.{T_true}
+use Rattle.model.proofs.Laws.Members.{each-each, each_same, each-length}
 use Rattle.table.specs.Rows.{Kind, number, cell, are_zero, row_of, table_of, image_of, are_wide}
 use Rattle.table.specs.Laws.Kinds.{Lawful, number-lawful, cell-lawful}
 use Rattle.table.specs.Laws.Words.{table-length, words-all}

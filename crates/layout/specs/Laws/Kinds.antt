@@ -13,11 +13,11 @@ use Rattle.component.specs.Laws.Adjacent.{room-above}
 use Rattle.component.specs.Touch.{touches}
 use Rattle.model.specs.Cells.{Offset, offsets26, offsets_of, touch_by, touch_at, shift}
 use Rattle.model.specs.Places.{offset_at}
-use Rattle.model.specs.Laws.Tests.{T_true, true_of, and-fst, same_test}
-use Rattle.model.specs.Laws.Members.{keep-in, each_in}
-use Rattle.model.specs.Laws.Touching.{AboveZero, step_of, leads-shift, neighbour-touches as shift-touches-by}
-use Rattle.model.specs.Laws.Kinds.{touch-kind}
-use Rattle.model.specs.Laws.Slots.{offset-is, offset-in, same_step}
+use Rattle.model.proofs.Laws.Tests.{T_true, true_of, and-fst, same_test}
+use Rattle.model.proofs.Laws.Members.{keep-in, each_in}
+use Rattle.model.proofs.Laws.Touching.{AboveZero, step_of, leads-shift, neighbour-touches as shift-touches-by}
+use Rattle.model.proofs.Laws.Kinds.{touch-kind}
+use Rattle.model.proofs.Laws.Slots.{offset-is, offset-in, same_step}
 use Rattle.layout.specs.Rows.{neighbour_of}
 use Rattle.layout.specs.Laws.Numbers.{neighbour-at}
 

@@ -13,7 +13,7 @@ use Rattle.component.specs.Touch.{touches}
 use Rattle.component.specs.Laws.Touch.{touches-within, neighbour-is-touching}
 use Rattle.layout.specs.Rows.{number_of, or_self, neighbour_of}
 use Rattle.model.specs.Places.{place_in, slot_of}
-use Rattle.model.specs.Laws.Slots.{slot-low, slot-high}
+use Rattle.model.proofs.Laws.Slots.{slot-low, slot-high}
 
 -- The number of a place of the block, the centre left out.
 abbrev numbered : ℕ → ℕ

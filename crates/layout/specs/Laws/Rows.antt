@@ -10,8 +10,8 @@ use Rattle.component.specs.Touch.{touches}
 use Rattle.model.specs.Lists.{all, each, whilst}
 use Rattle.model.specs.Cells.{Cell}
 use Rattle.model.specs.Groups.{Group}
-use Rattle.model.specs.Laws.Tests.{and-fst, and-snd, or_cases, T_true, true_of, eqb_of}
-use Rattle.model.specs.Laws.Members.{all-in, all-out, each-out, each-each, each_same, each-length, whilst-out}
+use Rattle.model.proofs.Laws.Tests.{and-fst, and-snd, or_cases, T_true, true_of, eqb_of}
+use Rattle.model.proofs.Laws.Members.{all-in, all-out, each-out, each-each, each_same, each-length, whilst-out}
 use Rattle.table.specs.Rows.{Kind, number, cell, are_zero, are_wide}
 use Rattle.layout.specs.Rows.{entity_row, entity_of, net_row, id_row, id_of, group_row, group_of}
 

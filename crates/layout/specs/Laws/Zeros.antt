@@ -7,8 +7,8 @@ use mathlib.Core.List.Memᴰ.{tail}
 use mathlib.Core.List.{List, [], ◌∷◌, ◌++◌, Memᴰ as Mem}
 use Rattle.std.proofs.Math.Seq.{take-append_seam}
 use Rattle.model.specs.Lists.{whilst}
-use Rattle.model.specs.Laws.Tests.{cond_yes}
-use Rattle.model.specs.Laws.Prefixes.{whilst-split}
+use Rattle.model.proofs.Laws.Tests.{cond_yes}
+use Rattle.model.proofs.Laws.Prefixes.{whilst-split}
 use Rattle.table.specs.Rows.{are_zero}
 use Rattle.table.specs.Laws.Images.{zeros-are}
 

@@ -9,11 +9,11 @@ use Rattle.component.specs.Laws.Tests.{both}
 use Rattle.model.specs.Lists.{all, values}
 use Rattle.model.specs.Update.{State, most_entities, most_cells}
 use Rattle.model.specs.Consistent.{consistent}
-use Rattle.model.specs.Laws.Tests.{T_true, true_of}
-use Rattle.model.specs.Laws.Members.{all-out, each_in, key_in}
-use Rattle.model.specs.Laws.Values.{value_in}
-use Rattle.model.specs.Laws.Touching.{touching-26}
-use Rattle.model.specs.Laws.Consistency.{Ok, ok_out}
+use Rattle.model.proofs.Laws.Tests.{T_true, true_of}
+use Rattle.model.proofs.Laws.Members.{all-out, each_in, key_in}
+use Rattle.model.proofs.Laws.Values.{value_in}
+use Rattle.model.proofs.Laws.Touching.{touching-26}
+use Rattle.model.proofs.Laws.Consistency.{Ok, ok_out}
 use Rattle.table.specs.Rows.{are_zero}
 use Rattle.table.specs.Laws.Images.{zeros-are}
 use Rattle.layout.specs.Widths.{header_len, spare, entity_width, cell_width, net_width, id_width, group_width}

@@ -5,7 +5,7 @@ use Rattle.std.proofs.Math.Path.{ap}
 use Rattle.std.proofs.Math.Dec.{eqb}
 use Rattle.component.specs.First.{FirstAt}
 use Rattle.model.specs.Lists.{all, keys, values}
-use Rattle.model.specs.Laws.Tests.{T_true}
+use Rattle.model.proofs.Laws.Tests.{T_true}
 use Rattle.layout.specs.Points.{points, first_of, first_broken, consistent_words}
 
 -- The test at a place has this number, fails, and those before it hold.

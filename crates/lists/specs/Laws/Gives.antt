@@ -4,7 +4,7 @@ use Rattle.std.proofs.Common.{arith, sym, ap, ◌∙◌, length-take-le}
 use Rattle.model.specs.Lists.{gather, keys}
 use Rattle.model.specs.Cells.{Cell}
 use Rattle.model.specs.Questions.{Listed}
-use Rattle.model.specs.Laws.Members.{each-each}
+use Rattle.model.proofs.Laws.Members.{each-each}
 use Rattle.table.specs.Moves.{over}
 use Rattle.table.specs.Rows.{table1}
 use Rattle.layout.specs.Widths.{group_width, answer_width}

@@ -9,10 +9,10 @@ use Rattle.model.specs.Lists.{each, has, keys, gather, count}
 use Rattle.model.specs.Cells.{Cell, same, below, touch_at}
 use Rattle.model.specs.Masks.{bit, touching}
 use Rattle.model.specs.Questions.{nearby_by}
-use Rattle.model.specs.Laws.Tests.{true_of, false_of}
-use Rattle.model.specs.Laws.Orders.{cells}
-use Rattle.model.specs.Laws.Members.{keep-shorter, each-length, count-length, has_of, hasnt-of}
-use Rattle.model.specs.Laws.Sorted.{Asc}
+use Rattle.model.proofs.Laws.Tests.{true_of, false_of}
+use Rattle.model.proofs.Laws.Orders.{cells}
+use Rattle.model.proofs.Laws.Members.{keep-shorter, each-length, count-length, has_of, hasnt-of}
+use Rattle.model.proofs.Laws.Sorted.{Asc}
 use Rattle.table.specs.declared.Place.{Place}
 use Rattle.table.specs.declared.Place.TheVariants.{Found, Missing}
 use Rattle.table.specs.Rows.{cell, placed, place_of, table4}

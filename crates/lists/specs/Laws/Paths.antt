@@ -6,10 +6,10 @@ use Rattle.std.proofs.Math.Option.{Option}
 use Rattle.model.specs.Lists.{has, keys}
 use Rattle.model.specs.Cells.{Cell, same, below, touch_at}
 use Rattle.model.specs.Shortest.{shown_path}
-use Rattle.model.specs.Laws.Tests.{T_true, T_false}
-use Rattle.model.specs.Laws.Orders.{cells}
-use Rattle.model.specs.Laws.Members.{of-has, of-hasnt}
-use Rattle.model.specs.Theorems.PathExact.{path-unoccupied}
+use Rattle.model.proofs.Laws.Tests.{T_true, T_false}
+use Rattle.model.proofs.Laws.Orders.{cells}
+use Rattle.model.proofs.Laws.Members.{of-has, of-hasnt}
+use Rattle.model.proofs.Theorems.PathExact.{path-unoccupied}
 use Rattle.table.specs.declared.Place.{Place}
 use Rattle.table.specs.Rows.{cell, is_found, placed, place_of, table4}
 use Rattle.table.specs.Laws.Kinds.{cell-lawful}

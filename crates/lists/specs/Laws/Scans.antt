@@ -7,7 +7,7 @@ use Rattle.std.proofs.lemmas.List.{set_split}
 use Rattle.std.proofs.Math.Seq.{take-append_seam, drop-append-add}
 use Rattle.model.specs.Lists.{keep, keys}
 use Rattle.model.specs.Cells.{Cell, same}
-use Rattle.model.specs.Laws.Members.{each_append, each-length, keep-shorter}
+use Rattle.model.proofs.Laws.Members.{each_append, each-length, keep-shorter}
 use Rattle.table.specs.Moves.{over}
 use Rattle.table.specs.Rows.{Kind, number, cell, rows_of, cell_at, entry_of, table_of, table1}
 use Rattle.table.specs.Laws.Words.{table-length, keys_length, word_at, number_at, cell-at, entry_at}

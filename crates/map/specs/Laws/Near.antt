@@ -11,12 +11,12 @@ use Rattle.component.specs.Adjacent.{has_room}
 use Rattle.model.specs.Lists.{has}
 use Rattle.model.specs.Cells.{offsets_of, touch_at}
 use Rattle.model.specs.Masks.{mask_of, leads_to}
-use Rattle.model.specs.Laws.Tests.{cond_yes, cond_no, T_true, true_of}
-use Rattle.model.specs.Laws.Orders.{cells, same_of, differ, is-or, numbers}
-use Rattle.model.specs.Laws.Kinds.{kind-set}
+use Rattle.model.proofs.Laws.Tests.{cond_yes, cond_no, T_true, true_of}
+use Rattle.model.proofs.Laws.Orders.{cells, same_of, differ, is-or, numbers}
+use Rattle.model.proofs.Laws.Kinds.{kind-set}
 use Rattle.model.specs.Places.{slot, offset_at}
-use Rattle.model.specs.Laws.Slots.{offset-in, mask_is}
-use Rattle.model.specs.Theorems.MasksExact.{leads-there}
+use Rattle.model.proofs.Laws.Slots.{offset-in, mask_is}
+use Rattle.model.proofs.Theorems.MasksExact.{leads-there}
 use Rattle.layout.specs.Rows.{number_of, neighbour_of}
 use Rattle.layout.specs.Laws.Kinds.{kind-touches, above, shift-at, touch-near}
 use Rattle.layout.specs.Laws.Numbers.{number-of-neighbour, number-range, neighbour-of-number, number-back}

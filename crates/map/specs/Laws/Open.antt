@@ -7,12 +7,12 @@ use Rattle.component.specs.Adjacent.{has_room}
 use Rattle.model.specs.Lists.{has, each, add, without, keys, put, drop_key, change}
 use Rattle.model.specs.Cells.{offsets_of, touch_at}
 use Rattle.model.specs.Masks.{mask_of, masked}
-use Rattle.model.specs.Laws.Tests.{T_false, same_test}
-use Rattle.model.specs.Laws.Orders.{Ordered, cells}
-use Rattle.model.specs.Laws.Members.{keep-each, each-each, each_same}
-use Rattle.model.specs.Laws.Kinds.{kind-touching}
+use Rattle.model.proofs.Laws.Tests.{T_false, same_test}
+use Rattle.model.proofs.Laws.Orders.{Ordered, cells}
+use Rattle.model.proofs.Laws.Members.{keep-each, each-each, each_same}
+use Rattle.model.proofs.Laws.Kinds.{kind-touching}
 use Rattle.model.specs.Places.{slot}
-use Rattle.model.specs.Laws.Slots.{joined, left, masked-add, masked-without}
+use Rattle.model.proofs.Laws.Slots.{joined, left, masked-add, masked-without}
 use Rattle.layout.specs.Rows.{neighbour_of, id_row, net_row}
 use Rattle.map.specs.Told.{revised_mask, revised, of_kind, told}
 use Rattle.map.specs.Laws.Each.{change-each}

@@ -5,13 +5,13 @@ use mathlib.Core.List.{List, Memᴰ as Mem}
 use Rattle.model.specs.Lists.{has, add, put, drop_key}
 use Rattle.model.specs.Cells.{Cell, same, below, cell_in_range, touch_at}
 use Rattle.model.specs.Occupancy.{Occupancy, occupied, stands_in, with_entities, leaves, enters, open_cell, close_cell, enter, leave}
-use Rattle.model.specs.Laws.Tests.{T_true}
-use Rattle.model.specs.Laws.Orders.{cells}
-use Rattle.model.specs.Laws.Members.{without_in, without-out}
-use Rattle.model.specs.Laws.Sorted.{Asc, keep-asc, add-asc, add-out, add-in, add-self}
-use Rattle.model.specs.Laws.Tables.{At, Free}
-use Rattle.model.specs.Laws.Occupied.{Sound, enter-sound, leave-sound, occupied-open, occupied-close}
-use Rattle.model.specs.Laws.Net.{Inside, pass-inside}
+use Rattle.model.proofs.Laws.Tests.{T_true}
+use Rattle.model.proofs.Laws.Orders.{cells}
+use Rattle.model.proofs.Laws.Members.{without_in, without-out}
+use Rattle.model.proofs.Laws.Sorted.{Asc, keep-asc, add-asc, add-out, add-in, add-self}
+use Rattle.model.proofs.Laws.Tables.{At, Free}
+use Rattle.model.proofs.Laws.Occupied.{Sound, enter-sound, leave-sound, occupied-open, occupied-close}
+use Rattle.model.proofs.Laws.Net.{Inside, pass-inside}
 use Rattle.map.specs.Held.{Placed}
 
 -- What is asked of the net lists.

@@ -9,10 +9,10 @@ use Rattle.model.specs.Lists.{each, has, add, without, keys, put, drop_key, chan
 use Rattle.model.specs.Cells.{Cell, same, below, cell_in_range, touch_at}
 use Rattle.model.specs.Masks.{mask_of}
 use Rattle.model.specs.Occupancy.{Occupancy, occupied, open_cell, close_cell}
-use Rattle.model.specs.Laws.Tests.{true_of}
-use Rattle.model.specs.Laws.Members.{each-length}
-use Rattle.model.specs.Laws.Sorted.{Asc}
-use Rattle.model.specs.Laws.Occupied.{occupied-asc, occupied-out}
+use Rattle.model.proofs.Laws.Tests.{true_of}
+use Rattle.model.proofs.Laws.Members.{each-length}
+use Rattle.model.proofs.Laws.Sorted.{Asc}
+use Rattle.model.proofs.Laws.Occupied.{occupied-asc, occupied-out}
 use Rattle.layout.specs.Widths.{cell_width, net_width}
 use Rattle.layout.specs.Rows.{neighbour_of, id_row, net_row, cells_image, net_image}
 use Rattle.layout.specs.Laws.Rows.{ids-wide, nets-wide}

@@ -16,11 +16,11 @@ use Rattle.model.specs.Lists.{keep, add, ascending, each, keys, values, put, get
 use Rattle.model.specs.Cells.{Cell, same, below}
 use Rattle.model.specs.Occupancy.{Occupancy}
 use Rattle.model.specs.Crowd.{how_many, tallied}
-use Rattle.model.specs.Laws.Tests.{cond_yes, cond_no}
-use Rattle.model.specs.Laws.Orders.{cells, differ}
-use Rattle.model.specs.Laws.Members.{keep_append, each_append, each-length, once-shorter, mem-or}
-use Rattle.model.specs.Laws.Sorted.{nil, asc-once, asc-equal, add-out, add-in, add-self, add-asc, add-length-new, ascending-asc, ascending-in, ascending-out}
-use Rattle.model.specs.Laws.Occupied.{Sound, stands-has}
+use Rattle.model.proofs.Laws.Tests.{cond_yes, cond_no}
+use Rattle.model.proofs.Laws.Orders.{cells, differ}
+use Rattle.model.proofs.Laws.Members.{keep_append, each_append, each-length, once-shorter, mem-or}
+use Rattle.model.proofs.Laws.Sorted.{nil, asc-once, asc-equal, add-out, add-in, add-self, add-asc, add-length-new, ascending-asc, ascending-in, ascending-out}
+use Rattle.model.proofs.Laws.Occupied.{Sound, stands-has}
 use Rattle.layout.specs.Widths.{crowd_width, entity_cell, entity_width}
 use Rattle.layout.specs.Rows.{id_row, entity_of, entities_image, entities_in}
 use Rattle.layout.specs.Laws.Images.{entities-laws}

@@ -4,7 +4,7 @@ use borrow.Author.Rules.{rules}
 use Rattle.component.specs.Around.{step_n}
 use Rattle.model.specs.Cells.{Cell, shift}
 use Rattle.model.specs.Places.{offset_at}
-use Rattle.model.specs.Laws.Slots.{offset_of, offset-is}
+use Rattle.model.proofs.Laws.Slots.{offset_of, offset-is}
 use Rattle.neighbourhood.specs.Rows.{Lands}
 use Rattle.neighbourhood.proofs.near_of.Statement.{statement}
 use Rattle.neighbourhood.proofs.near_of.Tie as tie

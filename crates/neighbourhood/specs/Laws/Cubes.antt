@@ -6,10 +6,10 @@ use Rattle.component.specs.Laws.Neighbours.{around-ordered, around-length, aroun
 use Rattle.component.specs.Laws.Tests.{leb-same}
 use Rattle.model.specs.Lists.{keep, has, keys, gather}
 use Rattle.model.specs.Cells.{Cell, same, below}
-use Rattle.model.specs.Laws.Tests.{and-fst, and-snd, and_both, T_true, eqb_of}
-use Rattle.model.specs.Laws.Orders.{cells, differ, differs}
-use Rattle.model.specs.Laws.Members.{keep-in, keep_out, has_of, of-has, gather_append}
-use Rattle.model.specs.Laws.Sorted.{Asc, nil, cons, keep-asc, asc-equal}
+use Rattle.model.proofs.Laws.Tests.{and-fst, and-snd, and_both, T_true, eqb_of}
+use Rattle.model.proofs.Laws.Orders.{cells, differ, differs}
+use Rattle.model.proofs.Laws.Members.{keep-in, keep_out, has_of, of-has, gather_append}
+use Rattle.model.proofs.Laws.Sorted.{Asc, nil, cons, keep-asc, asc-equal}
 use Rattle.table.specs.Moves.{over}
 use Rattle.table.specs.Rows.{cell, cell_at, table4}
 use Rattle.table.specs.Laws.Words.{keys_length, cell-at}

@@ -3,7 +3,7 @@ use Rattle.std.specs.Prelude.{ℕ, ◌≡◌, refl, List, [], ◌∷◌}
 use Rattle.std.proofs.Common.{arith}
 use Rattle.model.specs.Cells.{Cell, below, touch_at}
 use Rattle.model.specs.Masks.{mask_of, masked}
-use Rattle.model.specs.Laws.Sorted.{Asc, is_ascending-out}
+use Rattle.model.proofs.Laws.Sorted.{Asc, is_ascending-out}
 use Rattle.layout.specs.Rows.{cells_image}
 use Rattle.neighbourhood.specs.Standing.{Cells, flood_from}
 use Rattle.neighbourhood.specs.Laws.Reads.{cells_of}

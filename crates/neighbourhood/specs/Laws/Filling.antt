@@ -6,7 +6,7 @@ use Rattle.std.proofs.Math.ListN.{length}
 use Rattle.std.proofs.Math.Seq.{take-append_seam, drop-append-add, length-take-le}
 use Rattle.model.specs.Lists.{each, gather}
 use Rattle.model.specs.Cells.{Cell}
-use Rattle.model.specs.Laws.Members.{gather_append, each-length}
+use Rattle.model.proofs.Laws.Members.{gather_append, each-length}
 use Rattle.table.specs.Moves.{over}
 use Rattle.layout.specs.Widths.{answer_width}
 use Rattle.neighbourhood.specs.Rows.{row_cell}

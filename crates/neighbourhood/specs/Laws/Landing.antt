@@ -5,9 +5,9 @@ use mathlib.Core.List.{List, Memᴰ as Mem}
 use Rattle.model.specs.Lists.{keys}
 use Rattle.model.specs.Cells.{Cell, Offset, touch_at, leads}
 use Rattle.model.specs.Masks.{leads_to}
-use Rattle.model.specs.Laws.Tests.{and-snd, T_true}
-use Rattle.model.specs.Laws.Members.{any_out}
-use Rattle.model.specs.Laws.Slots.{leads-parts}
+use Rattle.model.proofs.Laws.Tests.{and-snd, T_true}
+use Rattle.model.proofs.Laws.Members.{any_out}
+use Rattle.model.proofs.Laws.Slots.{leads-parts}
 use Rattle.table.specs.Rows.{cell, cell_at, table4}
 use Rattle.table.specs.Laws.Words.{keys_length, cell-at}
 use Rattle.layout.specs.Widths.{cell_width}

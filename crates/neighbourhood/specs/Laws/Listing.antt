@@ -6,7 +6,7 @@ use Rattle.std.proofs.Math.Bool.{true, false}
 use Rattle.model.specs.Lists.{keep, each, count}
 use Rattle.model.specs.Cells.{Cell}
 use Rattle.model.specs.Masks.{bit}
-use Rattle.model.specs.Laws.Members.{keep_append, each_append, each-length, count-length}
+use Rattle.model.proofs.Laws.Members.{keep_append, each_append, each-length, count-length}
 use Rattle.neighbourhood.specs.Rows.{row_cell, row_mask, row_near, set_of, row_list, row_for, onward_from, onward}
 use Rattle.neighbourhood.specs.Laws.Walking.{keep-next, keep-past}
 

@@ -6,7 +6,7 @@ use Rattle.component.specs.Laws.Tests.{and-fst, and-snd, leb-same, le-or-lt}
 use Rattle.model.specs.Lists.{keep, keys}
 use Rattle.model.specs.Cells.{Cell, bias}
 use Rattle.model.specs.Flood.{near_on, within_depth}
-use Rattle.model.specs.Laws.Tests.{false_of}
+use Rattle.model.proofs.Laws.Tests.{false_of}
 use Rattle.neighbourhood.specs.Rows.{row_cell}
 use Rattle.neighbourhood.specs.Standing.{Cells, open_cells, OutsideMarked}
 use Rattle.neighbourhood.specs.Beside.{are_near}

@@ -7,10 +7,10 @@ use Rattle.std.proofs.Math.Dec.{T, not_T, ltb→lt, leb→le}
 use Rattle.component.specs.Around.{Within}
 use Rattle.model.specs.Lists.{keep, keys}
 use Rattle.model.specs.Cells.{Cell, below}
-use Rattle.model.specs.Laws.Tests.{and-snd, and_both, or_cases, or_left, or_right, cond_yes, cond_no, decided, eqb_of}
-use Rattle.model.specs.Laws.Orders.{Ordered, asym, cells}
-use Rattle.model.specs.Laws.Members.{keep-no, keep-none}
-use Rattle.model.specs.Laws.Sorted.{Asc, asc-head, asc-tail}
+use Rattle.model.proofs.Laws.Tests.{and-snd, and_both, or_cases, or_left, or_right, cond_yes, cond_no, decided, eqb_of}
+use Rattle.model.proofs.Laws.Orders.{Ordered, asym, cells}
+use Rattle.model.proofs.Laws.Members.{keep-no, keep-none}
+use Rattle.model.proofs.Laws.Sorted.{Asc, asc-head, asc-tail}
 use Rattle.table.specs.declared.Place.{Place}
 use Rattle.table.specs.declared.Place.TheVariants.{Found, Missing}
 use Rattle.table.specs.Rows.{cell, further, placed, place_of, table4, is_table4}

@@ -13,7 +13,7 @@ use Rattle.std.proofs.lemmas.Bool.{eqb-false}
 use Rattle.std.proofs.Math.Dec.{eqb}
 use Rattle.std.proofs.Math.ListN.{length-set}
 use Rattle.model.specs.Lists.{keep, has}
-use Rattle.model.specs.Laws.Members.{keep-ext, Once, once-head, once-tail}
+use Rattle.model.proofs.Laws.Members.{keep-ext, Once, once-head, once-tail}
 use Rattle.neighbourhood.specs.Fronts.{Front, front, is_open, pushed}
 
 -- The unmarked of some rows.

@@ -8,11 +8,11 @@ use mathlib.Core.List.Memᴰ.{tail}
 use mathlib.Core.List.{List, [], ◌∷◌, Memᴰ as Mem}
 use Rattle.model.specs.Lists.{each, keep, keys, count}
 use Rattle.model.specs.Cells.{Cell, touch_at}
-use Rattle.model.specs.Laws.Tests.{eqb_of}
-use Rattle.model.specs.Laws.Orders.{numbers}
-use Rattle.model.specs.Laws.Members.{keep-in, keep_out, keep_all, keep-ext, keep-keep, keep-swap, keep-each, each_in, each-out, each-length, count-in, count-out, Once, once-keep, once-each}
-use Rattle.model.specs.Laws.Sorted.{asc-once, count-asc}
-use Rattle.model.specs.Laws.Kinds.{kind-touching}
+use Rattle.model.proofs.Laws.Tests.{eqb_of}
+use Rattle.model.proofs.Laws.Orders.{numbers}
+use Rattle.model.proofs.Laws.Members.{keep-in, keep_out, keep_all, keep-ext, keep-keep, keep-swap, keep-each, each_in, each-out, each-length, count-in, count-out, Once, once-keep, once-each}
+use Rattle.model.proofs.Laws.Sorted.{asc-once, count-asc}
+use Rattle.model.proofs.Laws.Kinds.{kind-touching}
 use Rattle.neighbourhood.specs.Rows.{row_cell, onward}
 use Rattle.neighbourhood.specs.Fronts.{is_open}
 use Rattle.neighbourhood.specs.Standing.{Cells, open_cells}

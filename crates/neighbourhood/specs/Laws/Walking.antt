@@ -4,7 +4,7 @@ use Rattle.std.proofs.Common.{add-one, arith, sym, ap, ◌∙◌, append-nil, ap
 use Rattle.std.proofs.Math.Seq.{take-append-add}
 use Rattle.model.specs.Lists.{keep}
 use Rattle.model.specs.Cells.{Cell}
-use Rattle.model.specs.Laws.Members.{keep_append}
+use Rattle.model.proofs.Laws.Members.{keep_append}
 use Rattle.table.specs.Moves.{over}
 use Rattle.layout.specs.Widths.{answer_width}
 use Rattle.neighbourhood.specs.Answers.{answer_words}

@@ -1,7 +1,7 @@
 -- The row put is that of the cell with its id.
 use Rattle.partition.specs.Laws.Ids.{push-asks, push-done}
 use Rattle.partition.specs.Laws.Held.{put-shorter}
-use Rattle.model.specs.Laws.Orders.{cells}
+use Rattle.model.proofs.Laws.Orders.{cells}
 use native.Mathlib.Omega.{arith}
 use borrow.Author.Rules.{rules}
 use Rattle.partition.proofs.push.Statement.{statement}

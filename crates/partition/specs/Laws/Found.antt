@@ -17,11 +17,11 @@ use Rattle.model.specs.Lists.{each, keep, has, count, keys, values, get, only}
 use Rattle.model.specs.Cells.{Cell, same, below, cell_in_range, offsets_of, touch_at}
 use Rattle.model.specs.Places.{offset_at}
 use Rattle.model.specs.Groups.{Ids, found_at}
-use Rattle.model.specs.Laws.Tests.{T_true, true_of}
-use Rattle.model.specs.Laws.Orders.{cells}
-use Rattle.model.specs.Laws.Members.{each_append, each_in, gather_append, keep_append, keep-in, keep_out, has_of, of-has, of-hasnt, count-in, count-out}
-use Rattle.model.specs.Laws.Sorted.{Asc, each-asc, count-asc, keep-asc, asc-equal}
-use Rattle.model.specs.Laws.Tables.{keys-only, asc-mem-at, of-free, free-key}
+use Rattle.model.proofs.Laws.Tests.{T_true, true_of}
+use Rattle.model.proofs.Laws.Orders.{cells}
+use Rattle.model.proofs.Laws.Members.{each_append, each_in, gather_append, keep_append, keep-in, keep_out, has_of, of-has, of-hasnt, count-in, count-out}
+use Rattle.model.proofs.Laws.Sorted.{Asc, each-asc, count-asc, keep-asc, asc-equal}
+use Rattle.model.proofs.Laws.Tables.{keys-only, asc-mem-at, of-free, free-key}
 use Rattle.layout.specs.Rows.{neighbour_of, number_of}
 use Rattle.layout.specs.Laws.Numbers.{neighbour-at, number-range, neighbour-of-number}
 use Rattle.layout.specs.Laws.Kinds.{kind-touches, touch-near}

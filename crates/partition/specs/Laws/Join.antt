@@ -9,10 +9,10 @@ use mathlib.Core.List.{List, [], ◌∷◌, ◌++◌, append_assoc, append-nil, 
 use Rattle.model.specs.Lists.{keep, all, has, keys, change, put, run}
 use Rattle.model.specs.Cells.{Cell, below, touch_at}
 use Rattle.model.specs.Groups.{Ids, Groups, members, size, largest_group, merge, found_at, join_found, rule1}
-use Rattle.model.specs.Laws.Members.{keep_append, each_append, each-length, run-append, all-out, of-has}
-use Rattle.model.specs.Laws.Orders.{numbers}
-use Rattle.model.specs.Laws.Tests.{T_true, decided, cond_yes, cond_no}
-use Rattle.model.specs.Laws.Tables.{change-same}
+use Rattle.model.proofs.Laws.Members.{keep_append, each_append, each-length, run-append, all-out, of-has}
+use Rattle.model.proofs.Laws.Orders.{numbers}
+use Rattle.model.proofs.Laws.Tests.{T_true, decided, cond_yes, cond_no}
+use Rattle.model.proofs.Laws.Tables.{change-same}
 use Rattle.table.specs.Rows.{cell_at}
 use Rattle.layout.specs.Widths.{id_width, cell_id, net_width}
 use Rattle.partition.specs.Held.{HeldRows, HeldIds, HeldCells, joined, row_in}

@@ -11,9 +11,9 @@ use Rattle.std.proofs.Math.Seq.{take_at, drop_at, drop-drop, length-take-le}
 use Rattle.model.specs.Lists.{has}
 use Rattle.model.specs.Cells.{Cell, same, cell_in_range}
 use Rattle.model.specs.Groups.{Ids}
-use Rattle.model.specs.Laws.Orders.{cells}
-use Rattle.model.specs.Laws.Members.{keep_append, keep_out, key_in, key-out}
-use Rattle.model.specs.Laws.Tables.{only-asc}
+use Rattle.model.proofs.Laws.Orders.{cells}
+use Rattle.model.proofs.Laws.Members.{keep_append, keep_out, key_in, key-out}
+use Rattle.model.proofs.Laws.Tables.{only-asc}
 use Rattle.table.specs.Moves.{over}
 use Rattle.table.specs.Rows.{cell_at, image_of}
 use Rattle.layout.specs.Rows.{ids_image}

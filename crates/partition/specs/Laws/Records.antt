@@ -14,13 +14,13 @@ use Rattle.model.specs.Lists.{keep, has, keys, get, put, values, ascending}
 use Rattle.model.specs.Cells.{Cell, same}
 use Rattle.model.specs.Groups.{Ids, members, Group, standing_at, lower, higher, corner_at, record_of, records}
 use Rattle.model.specs.Crowd.{how_many}
-use Rattle.model.specs.Laws.Tests.{neqb-of}
-use Rattle.model.specs.Laws.Orders.{numbers, cells, is-or}
-use Rattle.model.specs.Laws.Members.{Once, once-head, once-tail, keep_append, keep-yes, keep-no, keep-none, keep_out, key_in, key-out, each_append, run-append, keep-shorter, each-length, gather-out}
-use Rattle.model.specs.Laws.Sorted.{Asc, asc-once, ascending-asc, ascending-length}
-use Rattle.model.specs.Laws.Tables.{keys_length, put-asc, table_same, get-put-self, get-put-other}
-use Rattle.model.specs.Laws.Records.{shown_of, records-get, records-keys}
-use Rattle.model.specs.Laws.EntityRows.{standing-last}
+use Rattle.model.proofs.Laws.Tests.{neqb-of}
+use Rattle.model.proofs.Laws.Orders.{numbers, cells, is-or}
+use Rattle.model.proofs.Laws.Members.{Once, once-head, once-tail, keep_append, keep-yes, keep-no, keep-none, keep_out, key_in, key-out, each_append, run-append, keep-shorter, each-length, gather-out}
+use Rattle.model.proofs.Laws.Sorted.{Asc, asc-once, ascending-asc, ascending-length}
+use Rattle.model.proofs.Laws.Tables.{keys_length, put-asc, table_same, get-put-self, get-put-other}
+use Rattle.model.proofs.Laws.Records.{shown_of, records-get, records-keys}
+use Rattle.model.proofs.Laws.EntityRows.{standing-last}
 use Rattle.layout.specs.Widths.{id_width, cell_id, group_width}
 use Rattle.partition.specs.Held.{HeldTable, HeldGroups, HeldCounts, grown, few, row_in}
 use Rattle.partition.specs.Laws.Held.{plain_at}

@@ -9,10 +9,11 @@ use Rattle.model.specs.Lists.{all, keys, count}
 use Rattle.model.specs.Cells.{Cell, touch_at}
 use Rattle.model.specs.Groups.{Ids}
 use Rattle.model.specs.Paths.{Joined}
-use Rattle.model.specs.Laws.Tests.{same_test, eqb_of, or_cases, or_right}
-use Rattle.model.specs.Laws.Members.{all-in, all-out, count-in, count-out}
-use Rattle.model.specs.Laws.Shared.{Shared, shared_in, shared-in, shared-out, agree-in, agree-out}
-use Rattle.model.specs.Laws.Kinds.{kind-touching}
+use Rattle.model.proofs.Laws.Tests.{same_test, eqb_of, or_cases, or_right}
+use Rattle.model.proofs.Laws.Members.{all-in, all-out, count-in, count-out}
+use Rattle.model.proofs.Laws.Shared.{Shared, shared-in, shared-out, agree-in, agree-out}
+use Rattle.model.specs.Shared.{shared_in}
+use Rattle.model.proofs.Laws.Kinds.{kind-touching}
 use Rattle.neighbourhood.specs.Laws.Lines.{get_d-mem, mem-get_d}
 use Rattle.neighbourhood.specs.Rows.{row_cell}
 use Rattle.neighbourhood.specs.Standing.{Cells, HasTable}

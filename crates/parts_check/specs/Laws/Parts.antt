@@ -10,12 +10,12 @@ use Rattle.model.specs.Lists.{has, keys, count, without}
 use Rattle.model.specs.Cells.{Cell, same, touch_at}
 use Rattle.model.specs.Groups.{part}
 use Rattle.model.specs.Paths.{stop, step, Path, Joined}
-use Rattle.model.specs.Laws.Tests.{T_true, T_false}
-use Rattle.model.specs.Laws.Orders.{cells, numbers, is-or, order-cases}
-use Rattle.model.specs.Laws.Members.{each-out, has_of, of-has, without_in, without-out}
-use Rattle.model.specs.Laws.Kinds.{kind-touching}
-use Rattle.model.specs.Laws.Walks.{wider, join, back, part-path, part-of-path}
-use Rattle.model.specs.Laws.Reaching.{flood-part}
+use Rattle.model.proofs.Laws.Tests.{T_true, T_false}
+use Rattle.model.proofs.Laws.Orders.{cells, numbers, is-or, order-cases}
+use Rattle.model.proofs.Laws.Members.{each-out, has_of, of-has, without_in, without-out}
+use Rattle.model.proofs.Laws.Kinds.{kind-touching}
+use Rattle.model.proofs.Laws.Walks.{wider, join, back, part-path, part-of-path}
+use Rattle.model.proofs.Laws.Reaching.{flood-part}
 use Rattle.neighbourhood.specs.Rows.{row_cell}
 use Rattle.neighbourhood.specs.Standing.{Cells, open_cells, flood_from, Floodable}
 use Rattle.neighbourhood.specs.Laws.Reads.{row-occupied}

@@ -6,10 +6,10 @@ use mathlib.Core.List.{List, Memᴰ as Mem}
 use Rattle.model.specs.Lists.{each, keys}
 use Rattle.model.specs.Cells.{Cell, same, touch_at}
 use Rattle.model.specs.Shortest.{steps_from}
-use Rattle.model.specs.Laws.Orders.{cells}
-use Rattle.model.specs.Laws.Members.{keep-in, keep_out, each_in, each-out}
-use Rattle.model.specs.Laws.Kinds.{kind-touching}
-use Rattle.model.specs.Laws.Steps.{steps-occupied, steps-none, steps-more, steps-less, StepsAway}
+use Rattle.model.proofs.Laws.Orders.{cells}
+use Rattle.model.proofs.Laws.Members.{keep-in, keep_out, each_in, each-out}
+use Rattle.model.proofs.Laws.Kinds.{kind-touching}
+use Rattle.model.proofs.Laws.Steps.{steps-occupied, steps-none, steps-more, steps-less, StepsAway}
 use Rattle.neighbourhood.specs.Rows.{row_cell, row_for, onward}
 use Rattle.neighbourhood.specs.Standing.{Cells, Levels}
 use Rattle.neighbourhood.specs.Laws.Reads.{row-occupied, row-once, row-for, onward-cells, onward-under}

@@ -15,13 +15,13 @@ use Rattle.model.specs.Lists.{keep, each, keys, has}
 use Rattle.model.specs.Cells.{Cell, same, touch_at}
 use Rattle.model.specs.Masks.{touching}
 use Rattle.model.specs.Shortest.{first_or, steps_from, walk, step_numbers, walk_first, shown_path}
-use Rattle.model.specs.Laws.Tests.{same_test, eqb_of}
-use Rattle.model.specs.Laws.Orders.{cells}
-use Rattle.model.specs.Laws.Members.{keep-in, keep_out, keep-ext, keep-each, each-length, has_of, of-has, count-in}
-use Rattle.model.specs.Laws.Sorted.{keep-asc, asc-equal}
-use Rattle.model.specs.Laws.Kinds.{kind-touching}
-use Rattle.model.specs.Laws.Steps.{steps-occupied, steps-asc, walk-length, joined-steps, away-number, away-once, StepsAway}
-use Rattle.model.specs.Theorems.PathExact.{path-none}
+use Rattle.model.proofs.Laws.Tests.{same_test, eqb_of}
+use Rattle.model.proofs.Laws.Orders.{cells}
+use Rattle.model.proofs.Laws.Members.{keep-in, keep_out, keep-ext, keep-each, each-length, has_of, of-has, count-in}
+use Rattle.model.proofs.Laws.Sorted.{keep-asc, asc-equal}
+use Rattle.model.proofs.Laws.Kinds.{kind-touching}
+use Rattle.model.proofs.Laws.Steps.{steps-occupied, steps-asc, walk-length, joined-steps, away-number, away-once, StepsAway}
+use Rattle.model.proofs.Theorems.PathExact.{path-none}
 use Rattle.neighbourhood.specs.Rows.{row_cell, onward}
 use Rattle.neighbourhood.specs.Standing.{Cells, Levels}
 use Rattle.neighbourhood.specs.Laws.Lines.{each_at}

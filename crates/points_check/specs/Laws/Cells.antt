@@ -9,10 +9,10 @@ use Rattle.component.specs.Laws.Tests.{both}
 use Rattle.model.specs.Lists.{equal, keys, values, ascending, is_ascending}
 use Rattle.model.specs.Cells.{Cell, same, below}
 use Rattle.model.specs.Update.{most_cells}
-use Rattle.model.specs.Laws.Tests.{T_true, true_of}
-use Rattle.model.specs.Laws.Orders.{cells as cell-order}
-use Rattle.model.specs.Laws.Members.{equal-in, equal-out}
-use Rattle.model.specs.Laws.Sorted.{Asc, ascending-asc}
+use Rattle.model.proofs.Laws.Tests.{T_true, true_of}
+use Rattle.model.proofs.Laws.Orders.{cells as cell-order}
+use Rattle.model.proofs.Laws.Members.{equal-in, equal-out}
+use Rattle.model.proofs.Laws.Sorted.{Asc, ascending-asc}
 use Rattle.table.specs.Rows.{cell, are_zero, table4, is_table4, is_table_of}
 use Rattle.table.specs.Laws.Words.{keys_length}
 use Rattle.layout.specs.Widths.{cell_width, id_width}

@@ -2,7 +2,7 @@
 use Rattle.std.specs.Prelude.{ℕ, zero, suc, ◌+◌, ◌*◌, ◌≤◌, ◌<◌, ◌≡◌, Bool, true, false, ◌&&◌, List, [], ◌∷◌, length, drop, get_or}
 use Rattle.std.proofs.Common.{add-one, arith, sym, ap, ◌∙◌, drop_of_length-le, drop-cons}
 use Rattle.model.specs.Lists.{all, equal, each, count}
-use Rattle.model.specs.Laws.Members.{each-length, count-length}
+use Rattle.model.proofs.Laws.Members.{each-length, count-length}
 use Rattle.neighbourhood.specs.Laws.Lines.{each-drop}
 use Rattle.neighbourhood.specs.Laws.Listing.{count-there}
 use Rattle.table.specs.Rows.{cell_at}

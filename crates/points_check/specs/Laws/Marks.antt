@@ -6,10 +6,10 @@ use Rattle.std.proofs.Math.Dec.{not_T}
 use Rattle.std.proofs.lemmas.List.{length-replicate, get_or-replicate}
 use Rattle.model.specs.Lists.{any, all, has, keep, equal, keys, ascending}
 use Rattle.model.specs.Cells.{Cell, same, below}
-use Rattle.model.specs.Laws.Tests.{T_true, T_false, true_of, false_of, same_test}
-use Rattle.model.specs.Laws.Orders.{cells, numbers, is-or, differ}
-use Rattle.model.specs.Laws.Members.{keep_append, keep-shorter, all-in, all-out, has_of, of-has, equal-in, equal-out}
-use Rattle.model.specs.Laws.Sorted.{asc-equal, ascending-asc, ascending-in, ascending-out}
+use Rattle.model.proofs.Laws.Tests.{T_true, T_false, true_of, false_of, same_test}
+use Rattle.model.proofs.Laws.Orders.{cells, numbers, is-or, differ}
+use Rattle.model.proofs.Laws.Members.{keep_append, keep-shorter, all-in, all-out, has_of, of-has, equal-in, equal-out}
+use Rattle.model.proofs.Laws.Sorted.{asc-equal, ascending-asc, ascending-in, ascending-out}
 use Rattle.neighbourhood.specs.Laws.Lines.{get_d-mem, mem-get_d, asc-index}
 use Rattle.table.specs.declared.Place.TheVariants.{Found}
 use Rattle.table.specs.Rows.{cell, cell_at, table4, is_table4, place_of}

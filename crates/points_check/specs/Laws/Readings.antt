@@ -3,7 +3,7 @@ use Rattle.std.specs.Prelude.{ℕ, ◌+◌, ◌*◌, ◌≤◌, ◌≡◌, List,
 use Rattle.std.proofs.Common.{arith, ap, ◌∙◌}
 use Rattle.model.specs.Lists.{keys, values}
 use Rattle.model.specs.Cells.{Cell}
-use Rattle.model.specs.Laws.Members.{each-each}
+use Rattle.model.proofs.Laws.Members.{each-each}
 use Rattle.table.specs.Rows.{Kind, number, cell, cell_at, rows_of, entry_of, table_of, table1, table4}
 use Rattle.table.specs.Laws.Words.{table-length, keys_length, entry_at, rest_at, cell-at}
 use Rattle.layout.specs.Widths.{entity_width, entity_cell, cell_width, net_width, id_width, cell_id}

@@ -13,10 +13,10 @@ use Rattle.model.specs.Update.{most_cells}
 use Rattle.model.specs.Groups.{Ids, Group, records}
 use Rattle.model.specs.Crowd.{how_many}
 use Rattle.model.specs.Consistent.{same_record}
-use Rattle.model.specs.Laws.Tests.{T_true, true_of, same_test}
-use Rattle.model.specs.Laws.Members.{equal-in, equal-out}
-use Rattle.model.specs.Laws.Sorted.{Asc}
-use Rattle.model.specs.Laws.Consistency.{record-eq, record-self}
+use Rattle.model.proofs.Laws.Tests.{T_true, true_of, same_test}
+use Rattle.model.proofs.Laws.Members.{equal-in, equal-out}
+use Rattle.model.proofs.Laws.Sorted.{Asc}
+use Rattle.model.proofs.Laws.Consistency.{record-eq, record-self}
 use Rattle.table.specs.Rows.{cell, cell_at, is_table4, are_zero}
 use Rattle.table.specs.Laws.Images.{table-facts}
 use Rattle.layout.specs.Widths.{id_width, group_width}

@@ -1,7 +1,7 @@
 -- Tests that come out as wanted, or not.
 use Rattle.std.specs.Prelude.{◌≡◌, refl, Bool, true, false, cond, ◌&&◌, ◌||◌, not}
 use Rattle.std.proofs.Common.{sym, T_not}
-use Rattle.model.specs.Laws.Tests.{T_true, T_false}
+use Rattle.model.proofs.Laws.Tests.{T_true, T_false}
 
 -- No test comes out both ways.
 pub true-false : {b : Bool} → b ≡ true → b ≡ false → ⊥

@@ -1,7 +1,7 @@
 -- What is asked of a kind of key, and that both kinds have it.
 use Rattle.std.specs.Prelude.{ℕ, ◌≤◌, ◌≡◌, refl, List, [], ◌∷◌, ◌++◌, length, drop}
 use Rattle.std.proofs.Common.{arith}
-use Rattle.model.specs.Laws.Orders.{Ordered, numbers, cells}
+use Rattle.model.proofs.Laws.Orders.{Ordered, numbers, cells}
 use Rattle.table.specs.Rows.{Kind, number, cell}
 
 -- The order is strict and total, a key has as many words as said, and it is read as it was written.

@@ -8,10 +8,10 @@ use Rattle.std.proofs.Math.Dec.{T}
 use Rattle.std.proofs.Math.ListN.{length, length-drop}
 use Rattle.std.proofs.Math.Seq.{length-take-le}
 use Rattle.model.specs.Lists.{has, is_ascending, keys, put, drop_key}
-use Rattle.model.specs.Laws.Tests.{and_both, T_true, true_of, eqb_of, or_left, or_right}
-use Rattle.model.specs.Laws.Members.{all-in, all-out, keep_out, has_of}
-use Rattle.model.specs.Laws.Sorted.{Asc, is_ascending-in}
-use Rattle.model.specs.Laws.Tables.{put-out, put-asc, drop-asc}
+use Rattle.model.proofs.Laws.Tests.{and_both, T_true, true_of, eqb_of, or_left, or_right}
+use Rattle.model.proofs.Laws.Members.{all-in, all-out, keep_out, has_of}
+use Rattle.model.proofs.Laws.Sorted.{Asc, is_ascending-in}
+use Rattle.model.proofs.Laws.Tables.{put-out, put-asc, drop-asc}
 use Rattle.table.specs.Rows.{Kind, table_of, stored_of, are_wide, is_table_of, has_room_of}
 use Rattle.table.specs.Laws.Kinds.{Lawful}
 use Rattle.table.specs.Laws.Images.{table-facts, table-of-image, image-is-table}

@@ -4,7 +4,7 @@ use Rattle.std.proofs.Math.Path.{refl}
 use Rattle.std.proofs.Common.{sym, eqb→eq}
 use Rattle.std.proofs.Math.Bool.{true, false, cond}
 use Rattle.std.proofs.Math.Dec.{eqb}
-use Rattle.model.specs.Laws.Tests.{T_true, T_false}
+use Rattle.model.proofs.Laws.Tests.{T_true, T_false}
 use Rattle.refusal.specs.declared.Refusal.{Refusal}
 use Rattle.told.specs.Told.{Told, done, too_long, refused, unless, fitted, unless_refused}
 

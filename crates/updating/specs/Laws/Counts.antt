@@ -5,7 +5,7 @@ use Rattle.model.specs.Lists.{each, values}
 use Rattle.model.specs.Cells.{Cell}
 use Rattle.model.specs.Crowd.{how_many}
 use Rattle.model.specs.Occupancy.{Occupancy, occupied}
-use Rattle.model.specs.Laws.Members.{each-each, each_append}
+use Rattle.model.proofs.Laws.Members.{each-each, each_append}
 use Rattle.layout.specs.Widths.{crowd_width, crowd_count}
 use Rattle.layout.specs.Rows.{ids_in}
 use Rattle.map.specs.Held.{crowd_of}

@@ -7,11 +7,11 @@ use Rattle.model.specs.Cells.{Cell, cell_in_range}
 use Rattle.model.specs.Occupancy.{occupied}
 use Rattle.model.specs.Update.{State, touch_of}
 use Rattle.model.specs.Consistent.{kind_known}
-use Rattle.model.specs.Laws.Orders.{cells}
-use Rattle.model.specs.Laws.Sorted.{ascending-out}
-use Rattle.model.specs.Laws.Tests.{and-fst, and-snd, and_both}
-use Rattle.model.specs.Laws.Consistency.{Ok, ok_in, ok_out}
-use Rattle.model.specs.Theorems.Kinds.{touching-of}
+use Rattle.model.proofs.Laws.Orders.{cells}
+use Rattle.model.proofs.Laws.Sorted.{ascending-out}
+use Rattle.model.proofs.Laws.Tests.{and-fst, and-snd, and_both}
+use Rattle.model.proofs.Laws.Consistency.{Ok, ok_in, ok_out}
+use Rattle.model.proofs.Theorems.Kinds.{touching-of}
 use Rattle.layout.specs.Rows.{entities_image, cells_image, net_image, ids_image, groups_image}
 use Rattle.layout.specs.State.{entities_len, cells_len, net_len, ids_len, groups_len, state_len, decode}
 use Rattle.layout.specs.Points.{long_enough, consistent_words}

@@ -11,16 +11,16 @@ use Rattle.model.specs.Cells.{Cell, below}
 use Rattle.model.specs.Occupancy.{Occupancy, Batch, occupied, start_batch, play_batch}
 use Rattle.model.specs.Groups.{regroup}
 use Rattle.model.specs.Update.{State, most_cells, touch_of, accepted_by, accepted}
-use Rattle.model.specs.Laws.Orders.{cells}
-use Rattle.model.specs.Laws.Minus.{minus-self}
-use Rattle.model.specs.Laws.Sorted.{Asc, nil}
-use Rattle.model.specs.Laws.Tables.{keys_length}
-use Rattle.model.specs.Laws.Occupied.{Sound, start-sound, occupied-asc}
-use Rattle.model.specs.Laws.Accepted.{Accepts, accepts, update-accepted}
-use Rattle.model.specs.Laws.Consistency.{Ok, ok_in}
-use Rattle.model.specs.Theorems.StaysConsistent.{accepted-ok}
-use Rattle.model.specs.Theorems.UpdateIds.{next_fits}
-use Rattle.model.specs.Theorems.Kinds.{touching-of}
+use Rattle.model.proofs.Laws.Orders.{cells}
+use Rattle.model.proofs.Laws.Minus.{minus-self}
+use Rattle.model.proofs.Laws.Sorted.{Asc, nil}
+use Rattle.model.proofs.Laws.Tables.{keys_length}
+use Rattle.model.proofs.Laws.Occupied.{Sound, start-sound, occupied-asc}
+use Rattle.model.proofs.Laws.Accepted.{Accepts, accepts, update-accepted}
+use Rattle.model.proofs.Laws.Consistency.{Ok, ok_in}
+use Rattle.model.proofs.Theorems.StaysConsistent.{accepted-ok}
+use Rattle.model.proofs.Theorems.UpdateIds.{next_fits}
+use Rattle.model.proofs.Theorems.Kinds.{touching-of}
 use Rattle.table.specs.Moves.{over}
 use Rattle.layout.specs.Widths.{crowd_width}
 use Rattle.layout.specs.Rows.{entities_image, cells_image, ids_image, entities_in, ids_in}

@@ -9,7 +9,7 @@ use Rattle.refusal.specs.Forms as form
 use Rattle.refusal.specs.Forms.{none, broken, plain}
 use Rattle.model.specs.Occupancy.{Batch}
 use Rattle.model.specs.Update.{update}
-use Rattle.model.specs.Laws.Tests.{T_true}
+use Rattle.model.proofs.Laws.Tests.{T_true}
 use Rattle.layout.specs.Widths.{move_width}
 use Rattle.layout.specs.State.{decode, next_id}
 use Rattle.layout.specs.Points.{long_enough, first_broken, consistent_words}

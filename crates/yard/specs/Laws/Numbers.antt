@@ -9,7 +9,7 @@ use Rattle.std.proofs.Math.Dec.{eqb}
 use Rattle.model.specs.Cells.{Cell}
 use Rattle.model.specs.Occupancy.{Occupancy, Event, Batch, start_batch, play, events}
 use Rattle.model.specs.Update.{State, too_many_events, out_of_range, few_ids, too_many_entities, too_many_cells, touch_of, broken_by, refusal_by, update_by, refusal, accepted, update}
-use Rattle.model.specs.Laws.Tests.{T_true}
+use Rattle.model.proofs.Laws.Tests.{T_true}
 use Rattle.batch.specs.Places.{batch_refusal}
 use Rattle.batch.specs.Laws.Places.{placed-number}
 

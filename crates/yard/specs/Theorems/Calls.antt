@@ -11,7 +11,7 @@ use Rattle.refusal.specs.declared.Refusal.{Refusal}
 use Rattle.refusal.specs.Forms as form
 use Rattle.model.specs.Update.{State, update}
 use Rattle.model.specs.Consistent.{consistent}
-use Rattle.model.specs.Theorems.Kinds.{kind-kept, consistent-update-kind}
+use Rattle.model.proofs.Theorems.Kinds.{kind-kept, consistent-update-kind}
 use Rattle.layout.specs.Widths.{move_width}
 use Rattle.layout.specs.State.{state_len, encode, decode}
 use Rattle.layout.specs.Points.{long_enough, first_broken, consistent_words}

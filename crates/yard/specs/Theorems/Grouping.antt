@@ -2,8 +2,8 @@
 use Rattle.std.specs.Prelude.{ℕ, ◌≡◌, List}
 use Rattle.std.proofs.Common.{sym, subst}
 use Rattle.model.specs.Update.{State, touch_of}
-use Rattle.model.specs.Theorems.Grouping.{Grouped}
-use Rattle.model.specs.Theorems.Kinds.{grouping-consistent-kind}
+use Rattle.model.proofs.Theorems.Grouping.{Grouped}
+use Rattle.model.proofs.Theorems.Kinds.{grouping-consistent-kind}
 use Rattle.layout.specs.State.{decode}
 use Rattle.yard.specs.Update.{update_of}
 use Rattle.yard.specs.Theorems.Calls.{call-done}

@@ -5,8 +5,8 @@ use Rattle.model.specs.Cells.{is_kind}
 use Rattle.model.specs.Update.{State, touch_of, fresh, update}
 use Rattle.model.specs.Consistent.{kind_known}
 use Rattle.model.specs.Runs.{Alike, SameOn}
-use Rattle.model.specs.Theorems.Kinds.{isolation-kind}
-use Rattle.model.specs.Laws.Tests.{T_true, and-fst}
+use Rattle.model.proofs.Theorems.Kinds.{isolation-kind}
+use Rattle.model.proofs.Laws.Tests.{T_true, and-fst}
 use Rattle.layout.specs.State.{decode}
 use Rattle.layout.specs.Laws.Orderly.{orderly-out}
 use Rattle.batch.specs.Words.{batch_of}
