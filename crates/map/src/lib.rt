@@ -1,4 +1,6 @@
 // The map in lent memory: where each entity stands, the occupied cells with their masks, how many stand in each, and both net lists.
+#![tactic(auto)]
+
 ghost use Rattle.std.specs.Prelude.{◌≡◌, true, false, cond, [], ◌∷◌, ◌++◌, ℕ, suc, ◌+◌, ◌-◌, ◌*◌, ◌≤◌, ◌<◌, length, take, drop, replicate, eqb, ltb};
 ghost use Rattle.component.specs.Order.{same, below};
 ghost use Rattle.model.specs.Lists.{has, keys, get, put, drop_key, change};

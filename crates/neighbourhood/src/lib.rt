@@ -1,4 +1,6 @@
 // What is looked up in the table of occupied cells: a cell and those that its mask tells of, the occupied cells of a cube, floods.
+#![tactic(auto)]
+
 ghost use Rattle.std.specs.Prelude.{◌≡◌, true, List, ◌++◌, ℕ, ◌+◌, ◌-◌, ◌*◌, ◌≤◌, ◌<◌, length, take, drop};
 ghost use Rattle.component.specs.Stored.{biased};
 ghost use Rattle.model.specs.Lists.{keep, keys, gather};

@@ -1,0 +1,19 @@
+-- After k numbers the first k neighbours are told.
+use Rattle.layout.specs.Widths.{cell_width}
+use Rattle.map.specs.Laws.Tables.{told_none, told_more, told-skip}
+use Rattle.map.specs.Told.{TableIs, told_one, of_kind, told}
+use Rattle.table.specs.Rows.{cell, table4}
+use Rattle.layout.specs.Rows.{neighbour_of}
+use Rattle.model.specs.Lists.{change}
+use lib.ListN.{length}
+use mathlib.Core.Path.{◌≡◌, refl, sym, ap, ◌∙◌}
+use native.Mathlib.Omega.{arith}
+use Prim.Native.Nat.{ℕ, ◌+◌, ◌-◌, ◌≤◌}
+use borrow.Author.Rules.{rules}
+use Rattle.map.proofs.tell.Given as goal
+
+abbrev pub invariant-loop-k : goal.invariant-loop-k
+invariant-loop-k l = (l.k ≤ 26) × (length l.cells ≡ length l.initial.cells) × (TableIs cell cell_width l.m l.cells (change (told (of_kind l.kind) l.joins (neighbour_of l.c) l.k) (table4 cell_width l.m l.initial.cells)))
+
+abbrev pub decreases-loop-k : goal.decreases-loop-k
+decreases-loop-k l = 26 - l.k

@@ -1,0 +1,25 @@
+-- The loop goes over the rows of the planes and writes the cells beside the centre.
+use Prim.Native.Nat.{ℕ, ◌+◌, ◌-◌, ◌*◌, ◌≤◌, ◌<◌}
+use native.Mathlib.Omega.{arith}
+use mathlib.Core.List.{List, ◌++◌, append-nil}
+use mathlib.Core.Path.{◌≡◌, refl, sym, ◌∙◌, ap}
+use lib.ListN.{length, take, drop}
+use borrow.Author.Rules.{rules}
+use Rattle.model.specs.Lists.{gather, keep, keys}
+use Rattle.model.specs.Cells.{Cell}
+use Rattle.table.specs.Rows.{cell, table4}
+use Rattle.table.specs.Laws.Images.{table-facts}
+use Rattle.layout.specs.Widths.{answer_width, cell_width}
+use Rattle.neighbourhood.specs.Rows.{row_for}
+use Rattle.neighbourhood.specs.Answers.{answer_words}
+use Rattle.neighbourhood.specs.Beside.{beside, plane_start}
+use Rattle.neighbourhood.specs.Laws.Cubes.{beside-step, beside-past}
+use Rattle.neighbourhood.specs.Laws.Planes.{plane-within, planes-order, beside-start, beside-stop}
+use Rattle.neighbourhood.specs.Laws.Walking.{behind-rest, over-length}
+use Rattle.neighbourhood.proofs.cube_into.Given as goal
+
+abbrev pub invariant-loop-i : goal.invariant-loop-i
+invariant-loop-i l = (l.i ≤ l.end) × (l.k ≤ l.from + l.i) × (length l.words ≡ length l.initial.words) × (take (answer_width * l.k) l.words ≡ take (answer_width * l.from) l.initial.words ++ gather answer_words (keep (beside l.r l.c) (take l.i (keys (table4 cell_width l.n l.cells))))) × (drop (answer_width * l.k) l.words ≡ drop (answer_width * l.k) l.initial.words)
+
+abbrev pub decreases-loop-i : goal.decreases-loop-i
+decreases-loop-i l = l.end - l.i
