@@ -1,4 +1,6 @@
 // A batch in words: the removals first, one word each, then the moves, five words each: entity, grid, x, y, z.
+#![tactic(auto)]
+
 ghost use Rattle.std.specs.Prelude.{◌≡◌, ◌+◌, ◌*◌, ◌≤◌, length, drop, ltb};
 ghost use Rattle.layout.specs.Widths.{move_width};
 ghost use Rattle.batch.specs.Words.{move_at, moves_in, batch_of, too_short, early};

@@ -1,4 +1,6 @@
 // A fresh state.
+#![tactic(auto)]
+
 ghost use Rattle.std.specs.Prelude.{◌≡◌};
 ghost use Rattle.fresh.specs.Answer.{fresh_of};
 

@@ -1,4 +1,6 @@
 // Answers that one search in the rows of one table finds; the state is not known here.
+#![tactic(auto)]
+
 ghost use Rattle.std.specs.Prelude.{◌≡◌, true, ◌+◌, ◌≤◌, eqb, length};
 ghost use Rattle.component.specs.Stored.{cell_id};
 ghost use Rattle.model.specs.Lists.{get, each};

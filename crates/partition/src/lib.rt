@@ -1,4 +1,6 @@
 // Groups of touching cells: the cells that have an id, row by row in lent words, and the rules that keep them.
+#![tactic(auto)]
+
 ghost use Rattle.std.specs.Prelude.{◌≡◌, ℕ, ◌+◌, ◌*◌, ◌<◌, ◌≤◌, List, [], ◌∷◌, length, get_or, take, drop, replicate, T, ltb, eqb};
 ghost use Rattle.table.specs.Moves.{over};
 ghost use Rattle.model.specs.Lists.{all, has, get, put, run};

@@ -1,4 +1,6 @@
 // A state in lent words, written part by part: the header and the tables, one behind the other.
+#![tactic(auto)]
+
 ghost use Rattle.std.specs.Prelude.{◌≡◌, List, ◌++◌, ℕ, ◌+◌, ◌≤◌, length, take};
 ghost use Rattle.table.specs.Moves.{over};
 ghost use Rattle.layout.specs.Widths.{header_len};

@@ -1,0 +1,38 @@
+-- `first_out` meets its contract.
+use borrow.Author.Tests.{not-true, not-false}
+use Prim.Native.Nat.{◌≤◌, ◌-◌}
+use native.Mathlib.Omega.{arith}
+use mathlib.Core.Path.{◌≡◌, sym, ap, ◌∙◌}
+use lib.ListN.{drop}
+use Rattle.component.specs.Range.{cell_in_range, stored_bad_axis}
+use Rattle.refusal.specs.Forms.{out_of_range}
+use Rattle.batch.specs.Words.{moves_in}
+use Rattle.batch.specs.Places.{first_out}
+use Rattle.batch.specs.Laws.Places.{out_from, out-start, out-here, out-behind, out-end}
+use borrow.Author.Rules.{rules}
+use Rattle.batch.proofs.first_out.Goals as goal
+
+pub returns-then-not-stored_in_range : goal.returns-then-not-stored_in_range
+returns-then-not-stored_in_range c =
+    let q = c in
+    let a = q.args in
+    let l = q.loop-i in
+    c.out_of_range.ensures
+    ∙ ap (out_of_range l.i) (c.stored_bad_axis.ensures ∙ ap stored_bad_axis q.move_cell-c.ensures)
+    ∙ sym (l.invariant.1 ∙ out-here a.batch.now a.from a.moves l.i q.loop-i-test.true
+    (ap cell_in_range (sym q.move_cell-c.ensures) ∙ sym q.stored_in_range.ensures ∙ c.if-not-stored_in_range.true))
+
+pub loop-i-preserved : goal.loop-i-preserved
+loop-i-preserved c =
+    let a = c.args in
+    let l = c.loop-i in (
+      omega (arith, c.loop-i-test.true),
+      l.invariant.1 ∙ out-behind a.batch.now a.from a.moves l.i c.loop-i-test.true
+          (ap cell_in_range (sym c.move_cell-c.ensures) ∙ sym c.stored_in_range.ensures ∙ c.if-not-stored_in_range.false),
+    )
+
+pub returns : goal.returns
+returns c =
+    let a = c.args in
+    c.none.ensures
+    ∙ sym (c.loop-i.invariant.1 ∙ out-end a.batch.now a.from a.moves c.loop-i.i c.loop-i-test.false)

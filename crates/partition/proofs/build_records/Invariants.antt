@@ -1,0 +1,22 @@
+-- After i rows the records are those of the first i cells.
+use Rattle.layout.specs.Widths.{id_width, group_width}
+use Rattle.partition.specs.Laws.Records.{turn-asks, count-few, turn-done, all_done}
+use Rattle.partition.specs.Laws.Held.{groups_none}
+use Rattle.partition.specs.Held.{HeldTable, HeldGroups, HeldCounts}
+use Rattle.model.specs.Cells.{Cell}
+use Rattle.model.specs.Groups.{Ids, records}
+use lib.ListN.{length, take}
+use mathlib.Core.Path.{◌≡◌, refl}
+use mathlib.Core.List.{List}
+use native.Mathlib.Omega.{arith}
+use Prim.Native.Nat.{ℕ, ◌-◌, ◌*◌, ◌≤◌}
+use borrow.Author.Rules.{rules}
+use Rattle.partition.proofs.build_records.Given as goal
+
+abbrev pub invariant-loop-i : goal.invariant-loop-i
+invariant-loop-i l =
+    (l.i ≤ l.n) × (length l.groups ≡ length l.initial.groups) × (id_width * l.n ≤ length l.ids) × (group_width * l.n ≤ length l.initial.groups) × (l.n ≤ length l.counts)
+    × ((e : List (ℕ × Cell)) (t : Ids) → HeldTable l.ids l.n t → HeldCounts l.counts l.ids l.n e → HeldGroups l.groups l.k (records e (take l.i t)))
+
+abbrev pub decreases-loop-i : goal.decreases-loop-i
+decreases-loop-i l = l.n - l.i

@@ -1,0 +1,16 @@
+-- After i rows the count is the group's size among the first i.
+use Rattle.partition.specs.Laws.Join.{size-more, size_same, size-all}
+use Rattle.layout.specs.Rows.{ids_in}
+use Rattle.model.specs.Groups.{size}
+use lib.ListN.{take}
+use mathlib.Core.Path.{◌≡◌, refl}
+use native.Mathlib.Omega.{arith}
+use Prim.Native.Nat.{◌-◌, ◌≤◌}
+use borrow.Author.Rules.{rules}
+use Rattle.partition.proofs.group_size.Given as goal
+
+abbrev pub invariant-loop-i : goal.invariant-loop-i
+invariant-loop-i l = (l.i ≤ l.n) × (l.m ≤ l.i) × (l.m ≡ size (take l.i (ids_in l.n l.ids)) l.g)
+
+abbrev pub decreases-loop-i : goal.decreases-loop-i
+decreases-loop-i l = l.n - l.i

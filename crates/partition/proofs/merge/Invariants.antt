@@ -1,0 +1,17 @@
+-- After i rows the first i are merged and the others as they were.
+use Rattle.layout.specs.Widths.{id_width}
+use Rattle.partition.specs.Laws.Join.{partly, merged, merge-set, merge-same, partly-all}
+use Rattle.partition.specs.Held.{HeldRows}
+use Rattle.model.specs.Groups.{Ids}
+use lib.ListN.{length, take, length-set}
+use mathlib.Core.Path.{◌≡◌, refl}
+use native.Mathlib.Omega.{arith}
+use Prim.Native.Nat.{◌-◌, ◌*◌, ◌≤◌}
+use borrow.Author.Rules.{rules}
+use Rattle.partition.proofs.merge.Given as goal
+
+abbrev pub invariant-loop-i : goal.invariant-loop-i
+invariant-loop-i l = (l.i ≤ l.n) × (length l.ids ≡ length l.initial.ids) × (id_width * l.n ≤ length l.initial.ids) × ((t : Ids) → HeldRows l.initial.ids l.n t → HeldRows l.ids l.n (partly (merged l.into (take l.k l.found)) t l.i))
+
+abbrev pub decreases-loop-i : goal.decreases-loop-i
+decreases-loop-i l = l.n - l.i

@@ -1,0 +1,51 @@
+-- After i cells the groups are those of rule 1 for the first i.
+use Rattle.layout.specs.Widths.{id_width, net_width}
+use Rattle.partition.specs.Laws.Join.{rules1-more, rules1-all}
+use Rattle.partition.specs.Laws.Held.{cells-ranged}
+use Rattle.partition.specs.Held.{HeldIds, HeldCells}
+use Rattle.model.specs.Groups.{Groups, rule1}
+use Rattle.model.specs.Cells.{Cell, cell_in_range, touch_at}
+use Rattle.model.specs.Lists.{run}
+use lib.ListN.{length, take}
+use lib.Dec.{T}
+use mathlib.Core.List.{List}
+use mathlib.Core.Path.{◌≡◌, refl, sym, subst}
+use native.Mathlib.Omega.{arith}
+use Prim.Native.Nat.{◌+◌, ◌-◌, ◌*◌, ◌≤◌, ◌<◌}
+use borrow.Author.Rules.{rules}
+use Rattle.partition.proofs.rules1.Goals as goal
+
+pub rule1-r-requires : goal.rule1-r-requires
+rule1-r-requires c =
+    let s = c in
+    let a = s.args in
+    let v = c.loop-i.invariant in (
+      run (rule1 (touch_at a.kind)) s.requires.0 (take c.loop-i.i s.requires.1),
+      v.7 s.requires.0 s.requires.1 s.requires.2 s.requires.3,
+      subst (λ (d : Cell). T (cell_in_range d)) (sym c.cell_at.ensures) (cells-ranged a.occupied.now a.m s.requires.1 s.requires.3 c.loop-i.i (omega arith)),
+      omega arith,
+      omega arith,
+    )
+
+pub loop-i-preserved : goal.loop-i-preserved
+loop-i-preserved c =
+    let s = c in
+    let a = s.args in
+    let v = c.loop-i.invariant in
+    let p = c.rule1-r.ensures in (
+      omega arith,
+      omega arith,
+      v.2,
+      v.3,
+      v.4,
+      omega arith,
+      omega arith,
+      λ g l h k. rules1-more a.kind a.occupied.now a.m l k g c.loop-i.i c.loop-i.ids c.loop-i.count c.loop-i.id (v.7 g l h k) (omega arith) _ _ _ _ c.cell_at.ensures p.2,
+    )
+
+pub returns : goal.returns
+returns c =
+    let s = c in
+    let a = s.args in
+    let v = c.loop-i.invariant in
+    (omega arith, omega arith, λ g l h k. rules1-all a.kind a.occupied.now a.m l k g c.loop-i.i c.loop-i.ids c.loop-i.count c.loop-i.id (v.7 g l h k) (omega arith))

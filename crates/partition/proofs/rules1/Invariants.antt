@@ -1,0 +1,24 @@
+-- After i cells the groups are those of rule 1 for the first i.
+use Rattle.layout.specs.Widths.{id_width, net_width}
+use Rattle.partition.specs.Laws.Join.{rules1-more, rules1-all}
+use Rattle.partition.specs.Laws.Held.{cells-ranged}
+use Rattle.partition.specs.Held.{HeldIds, HeldCells}
+use Rattle.model.specs.Groups.{Groups, rule1}
+use Rattle.model.specs.Cells.{Cell, cell_in_range, touch_at}
+use Rattle.model.specs.Lists.{run}
+use lib.ListN.{length, take}
+use lib.Dec.{T}
+use mathlib.Core.List.{List}
+use mathlib.Core.Path.{◌≡◌, refl, sym, subst}
+use native.Mathlib.Omega.{arith}
+use Prim.Native.Nat.{◌+◌, ◌-◌, ◌*◌, ◌≤◌, ◌<◌}
+use borrow.Author.Rules.{rules}
+use Rattle.partition.proofs.rules1.Given as goal
+
+abbrev pub invariant-loop-i : goal.invariant-loop-i
+invariant-loop-i v =
+    (v.i ≤ v.m) × (length v.ids ≡ length v.initial.ids) × (net_width * v.m ≤ length v.occupied) × (id_width * v.n + id_width * v.m ≤ length v.initial.ids) × (v.next + v.m < 18446744073709551616) × (v.count ≤ v.n + v.i) × (v.id ≤ v.next + v.i)
+    × ((s : Groups) (l : List Cell) → HeldIds v.initial.ids v.n v.next s → HeldCells v.occupied v.m l → HeldIds v.ids v.count v.id (run (rule1 (touch_at v.kind)) s (take v.i l)))
+
+abbrev pub decreases-loop-i : goal.decreases-loop-i
+decreases-loop-i l = l.m - l.i

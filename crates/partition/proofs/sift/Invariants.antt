@@ -1,0 +1,23 @@
+-- After i rows those that stay fill the first j, and the words behind them are as they were.
+use Rattle.layout.specs.Widths.{id_width}
+use Rattle.partition.specs.Laws.Leave.{sift-none, sift-drop, sift-keep, sift-back}
+use Rattle.partition.specs.Laws.Held.{cells-table, cells-keys}
+use Rattle.partition.specs.Held.{HeldRows, HeldCells, Sifted}
+use Rattle.model.specs.Groups.{Ids}
+use Rattle.model.specs.Cells.{Cell, same}
+use Rattle.model.specs.Lists.{has}
+use lib.ListN.{length, drop}
+use mathlib.Core.List.{List}
+use mathlib.Core.Path.{◌≡◌, refl, ◌∙◌, subst}
+use native.Mathlib.Omega.{arith}
+use Prim.Native.Nat.{ℕ, ◌-◌, ◌*◌, ◌≤◌}
+use borrow.Author.Rules.{rules}
+use Rattle.partition.proofs.sift.Given as goal
+
+abbrev pub invariant-loop-i : goal.invariant-loop-i
+invariant-loop-i v =
+    (v.j ≤ v.i) × (v.i ≤ v.n) × (length v.ids ≡ length v.initial.ids) × (id_width * v.n ≤ length v.initial.ids) × (drop (id_width * v.j) v.ids ≡ drop (id_width * v.j) v.initial.ids)
+    × ((t : Ids) (l : List Cell) → HeldRows v.initial.ids v.n t → HeldCells v.emptied v.m l → Sifted v.ids v.i v.j l t)
+
+abbrev pub decreases-loop-i : goal.decreases-loop-i
+decreases-loop-i l = l.n - l.i
