@@ -1,4 +1,6 @@
 // The events of a batch, played one after the other on the tables of a map, up to the first that breaks a limit.
+#![tactic(auto)]
+
 ghost use Rattle.std.specs.Prelude.{◌≡◌, true, cond, List, ◌+◌, ◌*◌, ◌≤◌, length, drop};
 ghost use Rattle.model.specs.Lists.{all};
 ghost use Rattle.model.specs.Cells.{Cell, touch_at};

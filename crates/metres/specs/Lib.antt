@@ -2,5 +2,3 @@ pub mod Place
 pub mod Answer
 pub mod Numbers
 pub mod Known
-pub mod Laws
-pub mod Theorems

@@ -1,4 +1,6 @@
 // Positions in metres: what a receiver's report makes in a yard's frame.
+#![tactic(auto)]
+
 ghost use Rattle.std.specs.Prelude.{◌≡◌, ◌*◌, ◌/◌, ◌≤◌, true, T, nat_lt, unsigned_abs};
 ghost use Rattle.std.specs.Int.Signed.{mag};
 ghost use Rattle.std.specs.Float.{binary64};

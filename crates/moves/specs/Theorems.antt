@@ -16,7 +16,7 @@ use Rattle.metres.specs.declared.Report.{Report}
 use Rattle.metres.specs.declared.Placing.{Placing}
 use Rattle.metres.specs.declared.Answer.TheVariants.{Event}
 use Rattle.metres.specs.Answer.{answer}
-use Rattle.metres.specs.Theorems.Events.{event-sound}
+use Rattle.metres.proofs.Theorems.Events.{event-sound}
 use Rattle.layout.specs.Widths.{move_width}
 use Rattle.moves.specs.Words.{move_words, moved, move_of}
 use Rattle.moves.specs.Laws.Words.{move-there, moves-back, moves-in}

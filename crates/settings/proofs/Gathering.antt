@@ -11,11 +11,11 @@ use lib.Seq.{take_at, drop_at, drop-drop, length-take-le, paste, take-paste, dro
 use Rattle.settings.specs.Records.{size_of, grid_of}
 use Rattle.settings.specs.Keeping.{has, keep_last, joined}
 use Rattle.settings.specs.Whole.{Ones, none, more, Whole, Gathered}
-use Rattle.settings.specs.Laws.Records.{one_size, one-sized, grid-front}
-use Rattle.settings.specs.Laws.Keeping.{keep-by, keep-none}
+use Rattle.settings.proofs.Laws.Records.{one_size, one-sized, grid-front}
+use Rattle.settings.proofs.Laws.Keeping.{keep-by, keep-none}
 use Rattle.settings.specs.Table.{mark_of}
-use Rattle.settings.specs.Laws.Marks.{mark-more, mark-has, mark-front}
-use Rattle.settings.specs.Laws.Parsing.{joined-more, joined-none}
+use Rattle.settings.proofs.Laws.Marks.{mark-more, mark-has, mark-front}
+use Rattle.settings.proofs.Laws.Parsing.{joined-more, joined-none}
 use Rattle.settings.proofs.Parts.{part, part_length, part-start, part-drop, part-take}
 
 -- Records of which the first is at the start of bytes.

@@ -1,8 +1,11 @@
+pub mod Cases
 pub mod Gathering
-pub mod Keeping
+pub mod KeepingSteps
+pub mod Laws
 pub mod Moving
 pub mod Noting
 pub mod Parts
-pub mod Reading
+pub mod ReadingSteps
 pub mod Signed
-pub mod Writing
+pub mod Theorems
+pub mod WritingSteps

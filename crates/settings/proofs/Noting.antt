@@ -10,8 +10,8 @@ use Rattle.settings.specs.Records.{size_of, grid_of}
 use Rattle.settings.specs.Table.{mark_of, noted, Known}
 use Rattle.settings.specs.Whole.{Whole}
 use Rattle.settings.specs.Keeping.{joined}
-use Rattle.settings.specs.Laws.Marks.{mark-more, mark-end}
-use Rattle.settings.specs.Laws.Table.{known-zeros, known_same}
+use Rattle.settings.proofs.Laws.Marks.{mark-more, mark-end}
+use Rattle.settings.proofs.Laws.Table.{known-zeros, known_same}
 use Rattle.settings.proofs.Gathering.{Front, front, no-records}
 use Rattle.settings.proofs.Parts.{part, part-all, part_length, part-drop}
 

@@ -8,6 +8,3 @@ pub mod Told
 pub mod Whole
 pub mod First
 pub mod Table
-pub mod Laws
-pub mod Theorems
-pub mod Cases

@@ -1,4 +1,6 @@
 // Stored yard settings: records in a lent slice, read for a grid, written at the end, and kept down to each grid's last.
+#![tactic(auto)]
+
 mod bytes;
 mod keeper;
 mod kinds;

@@ -9,8 +9,8 @@ use Rattle.settings.specs.declared.kinds.Check.TheVariants.{Fine}
 use Rattle.settings.specs.declared.kinds.Reading.TheVariants.{Found}
 use Rattle.settings.specs.Settings.{kind_ok, axis_ok, good_of}
 use Rattle.settings.specs.Reading.{read_of}
-use Rattle.settings.specs.Laws.Settings.{good-parts}
-use Rattle.settings.specs.Theorems.Reading.{found-good}
+use Rattle.settings.proofs.Laws.Settings.{good-parts}
+use Rattle.settings.proofs.Theorems.Reading.{found-good}
 use Rattle.settings_frame.specs.Frames.{frame_of}
 use Rattle.settings_frame.specs.Laws.Whole.{origin-whole, edge-whole}
 

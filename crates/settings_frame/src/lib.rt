@@ -1,4 +1,6 @@
 // The frame for positions in metres that the settings of a grid make.
+#![tactic(auto)]
+
 ghost use Rattle.std.specs.Prelude.{◌≡◌};
 ghost use Rattle.settings_frame.specs.Frames.{frame_of};
 

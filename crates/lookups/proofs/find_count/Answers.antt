@@ -27,7 +27,7 @@ under k u e =
 pub returns-in-Found : goal.returns-in-Found
 returns-in-Found c =
     ap (λ (m : ℕ). done (some m)) c.count.ensures
-    ∙ ap (λ (o : Option ℕ). done (ones_of o)) (under c.before.before.before.before.before _ c.in-Found.is)
+    ∙ ap (λ (o : Option ℕ). done (ones_of o)) (under c.before.before.before _ c.in-Found.is)
 
 pub returns-in-NotFound : goal.returns-in-NotFound
-returns-in-NotFound c = ap (λ (o : Option ℕ). done (ones_of o)) (under c.before.before.before Under.NotFound c.in-NotFound.is)
+returns-in-NotFound c = ap (λ (o : Option ℕ). done (ones_of o)) (under c.before.before Under.NotFound c.in-NotFound.is)

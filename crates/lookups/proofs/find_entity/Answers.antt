@@ -21,11 +21,11 @@ use Rattle.lookups.proofs.find_entity.Lts as lts
 use Rattle.lookups.proofs.find_entity.Tie as tie
 use Rattle.lookups.proofs.find_entity.Reads as reads
 
-at : (k : lts.After-known_told tie.the-claims reads.Pre reads.Post) → let s = k in
+at : (k : lts.Past-After-known_told tie.the-claims reads.Pre reads.Post) → let s = k in
     Found k.in-Found.i ≡ place_of ltb (keys (table1 entity_width s.args.n s.args.rows.now)) s.args.entity
 at k = sym k.in-Found.is ∙ k.find1-p.ensures
 
-inside : (k : lts.After-known_told tie.the-claims reads.Pre reads.Post) → let s = k in
+inside : (k : lts.Past-After-known_told tie.the-claims reads.Pre reads.Post) → let s = k in
     entity_width * k.in-Found.i + entity_width ≤ length s.args.rows.now
 inside k = let s = k in entity-inside s.args.n s.args.rows.now s.args.entity k.in-Found.i s.requires (at k)
 

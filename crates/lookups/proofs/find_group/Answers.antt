@@ -21,11 +21,11 @@ use Rattle.lookups.proofs.find_group.Lts as lts
 use Rattle.lookups.proofs.find_group.Tie as tie
 use Rattle.lookups.proofs.find_group.Reads as reads
 
-at : (k : lts.After-known_told tie.the-claims reads.Pre reads.Post) → let s = k in
+at : (k : lts.Past-After-known_told tie.the-claims reads.Pre reads.Post) → let s = k in
     Found k.in-Found.i ≡ place_of ltb (keys (table1 group_width s.args.n s.args.rows.now)) s.args.id
 at k = sym k.in-Found.is ∙ k.find1-p.ensures
 
-inside : (k : lts.After-known_told tie.the-claims reads.Pre reads.Post) → let s = k in
+inside : (k : lts.Past-After-known_told tie.the-claims reads.Pre reads.Post) → let s = k in
     group_width * k.in-Found.i + group_width ≤ length s.args.rows.now
 inside k = let s = k in group-inside s.args.n s.args.rows.now s.args.id k.in-Found.i s.requires (at k)
 

@@ -24,7 +24,7 @@ under k u e =
     ap under_cell (sym e) ∙ k.number_under-u.ensures ∙ ap (λ (t : List (Cell × ℕ)). get same t s.args.c) (sym (ids-rows s.args.n s.args.rows.now))
 
 pub returns-in-Found : goal.returns-in-Found
-returns-in-Found c = ap (λ (o : Option ℕ). done o) (under c.before.before.before.before _ c.in-Found.is)
+returns-in-Found c = ap (λ (o : Option ℕ). done o) (under c.before.before _ c.in-Found.is)
 
 pub returns-in-NotFound : goal.returns-in-NotFound
-returns-in-NotFound c = ap (λ (o : Option ℕ). done o) (under c.before.before.before Under.NotFound c.in-NotFound.is)
+returns-in-NotFound c = ap (λ (o : Option ℕ). done o) (under c.before.before Under.NotFound c.in-NotFound.is)

@@ -16,11 +16,11 @@ use Rattle.lookups.proofs.number_under.Lts as lts
 use Rattle.lookups.proofs.number_under.Tie as tie
 use Rattle.lookups.proofs.number_under.Reads as reads
 
-at : (k : lts.After-known_told tie.the-claims reads.Pre reads.Post) → let s = k in
+at : (k : lts.Past-After-known_told tie.the-claims reads.Pre reads.Post) → let s = k in
     Found k.in-Found.i ≡ place_of below (keys (table4 id_width s.args.n s.args.rows.now)) s.args.c
 at k = sym k.in-Found.is ∙ k.find4-p.ensures
 
-inside : (k : lts.After-known_told tie.the-claims reads.Pre reads.Post) → let s = k in
+inside : (k : lts.Past-After-known_told tie.the-claims reads.Pre reads.Post) → let s = k in
     id_width * k.in-Found.i + id_width ≤ length s.args.rows.now
 inside k =
     let s = k in

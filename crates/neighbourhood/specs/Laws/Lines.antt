@@ -16,7 +16,7 @@ module _ {A : Type 0} where
   mem-get_d [] d m = absurd (mem-nil m)
   mem-get_d {a} (x ∷ l) d m =
       ⊎_elim (λ e. (0, omega arith, sym e))
-      (λ k. let r : (i : ℕ) × (i < length l) × (get_or l i d ≡ a) = mem-get_d {a} l d k in (suc r.0, let h = r.1 in omega arith, r.2)) (mem-cons m)
+      (λ k. let r : (i : ℕ) × (i < length l) × (get_or l i d ≡ a) = mem-get_d {a = a} l d k in (suc r.0, let h = r.1 in omega arith, r.2)) (mem-cons m)
 
 module _ {A B : Type 0} (f : A → B) where
   -- What stands at a number after a rule.

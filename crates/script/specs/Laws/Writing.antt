@@ -1,5 +1,5 @@
 -- A record that is written is read back.
-use Rattle.std.specs.Prelude.{ℕ, ◌+◌, ◌≤◌, ◌<◌, ◌≡◌, refl, Bool, List, ◌++◌, length, get_or}
+use Rattle.std.specs.Prelude.{ℕ, ◌≤◌, ◌<◌, ◌≡◌, refl, Bool, List, ◌++◌, length, get_or}
 use Rattle.std.proofs.Common.{ap, ◌∙◌, arith, eq-eqb, ne_eqb, le-leb}
 use Rattle.little_endian.specs.Bytes.{bytes}
 use Rattle.little_endian.specs.Laws.Numbers.{little-bytes}

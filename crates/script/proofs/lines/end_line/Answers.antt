@@ -1,7 +1,6 @@
 -- The text is put at the start.
 use Rattle.script.proofs.Putting.{start, short}
 use Rattle.script.specs.Lines.{end_line}
-use borrow.Author.Rules.{rules}
 use Rattle.script.proofs.lines.end_line.Goals as goal
 
 pub returns-then-out-lt128 : goal.returns-then-out-lt128

@@ -3,7 +3,6 @@ use Prim.Native.Nat.{zero-le}
 use Rattle.little_endian.specs.Laws.Putting.{then}
 use Rattle.script.proofs.Putting.{start, short}
 use Rattle.script.specs.Lines.{entered_line}
-use borrow.Author.Rules.{rules}
 use Rattle.script.proofs.lines.entered_line.Goals as goal
 
 pub returns-then-out-lt128 : goal.returns-then-out-lt128

@@ -3,7 +3,6 @@ use Prim.Native.Nat.{zero-le}
 use native.Mathlib.Omega.{arith}
 use Rattle.little_endian.specs.Laws.Putting.{then}
 use Rattle.script.specs.Lines.{cell_text}
-use borrow.Author.Rules.{rules}
 use Rattle.script.proofs.lines.put_cell.Goals as goal
 
 pub returns : goal.returns

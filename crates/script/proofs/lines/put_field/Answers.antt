@@ -1,7 +1,6 @@
 -- The number is put behind the space.
 use native.Mathlib.Omega.{arith}
 use Rattle.little_endian.specs.Laws.Putting.{then}
-use borrow.Author.Rules.{rules}
 use Rattle.script.proofs.lines.put_field.Goals as goal
 
 pub returns : goal.returns

@@ -1,7 +1,6 @@
 -- A word has at most twenty digits.
 use native.Mathlib.Omega.{arith}
 use Rattle.script.specs.Laws.Decimal.{decimal-word}
-use borrow.Author.Rules.{rules}
 use Rattle.script.proofs.lines.put_number.Goals as goal
 
 pub put_digits-requires : goal.put_digits-requires

@@ -4,7 +4,6 @@ use native.Mathlib.Omega.{arith}
 use Rattle.little_endian.specs.Laws.Putting.{then}
 use Rattle.script.specs.Laws.Decimal.{signed_low, signed_high}
 use Rattle.little_endian.specs.Bytes.{put}
-use borrow.Author.Rules.{rules}
 use Rattle.script.proofs.lines.put_signed.Goals as goal
 
 pub returns-then-w-lt9223372036854775808 : goal.returns-then-w-lt9223372036854775808

@@ -1,13 +1,12 @@
 -- The first i bytes are put.
-use Prim.Native.Nat.{ℕ, ◌+◌, ◌-◌, ◌≤◌}
-use mathlib.Core.Path.{◌≡◌, refl, ap, ◌∙◌}
+use Prim.Native.Nat.{ℕ, ◌+◌}
+use mathlib.Core.Path.{◌≡◌, ap, ◌∙◌}
 use mathlib.Core.List.{List}
 use native.Mathlib.Numerals.{add-one}
 use native.Mathlib.Omega.{arith}
 use lib.ListN.{length, get_or, set, length-set}
-use lib.Seq.{paste, paste-zero, paste-suc}
+use lib.Seq.{paste-suc}
 use Rattle.little_endian.specs.Laws.Putting.{all}
-use borrow.Author.Rules.{rules}
 use Rattle.script.proofs.lines.put_text.Goals as goal
 
 pub loop-i-preserved : goal.loop-i-preserved

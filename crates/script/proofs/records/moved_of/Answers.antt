@@ -1,6 +1,5 @@
 -- Each field from its bytes.
 use Rattle.script.specs.Records.{moved_of}
-use borrow.Author.Rules.{rules}
 use Rattle.script.proofs.records.moved_of.Goals as goal
 
 pub returns : goal.returns

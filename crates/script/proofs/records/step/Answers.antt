@@ -2,7 +2,6 @@
 use borrow.Author.Tests.{eq-eqb, ne_eqb, le-leb, lt-leb}
 use mathlib.Core.Path.{sym}
 use Rattle.script.specs.Records.{step_of}
-use borrow.Author.Rules.{rules}
 use Rattle.script.proofs.records.step.Goals as goal
 
 pub returns-then-bytes-eq0 : goal.returns-then-bytes-eq0
