@@ -1,4 +1,6 @@
 // Events as moves: what a report makes, in the words of a batch.
+#![tactic(auto)]
+
 ghost use Rattle.std.specs.Prelude.{◌≡◌, ◌+◌, leb};
 ghost use Rattle.layout.specs.Widths.{move_width};
 ghost use Rattle.moves.specs.Words.{moved};
