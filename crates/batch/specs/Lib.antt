@@ -1,4 +1,2 @@
 pub mod Words
 pub mod Places
-pub mod Laws
-pub mod Theorems

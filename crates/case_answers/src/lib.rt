@@ -1,4 +1,6 @@
 // What a question answers about one thing, as text.
+#![tactic(auto)]
+
 use ask::{CountOf, GroupOf, IdOf, KindOf, Where};
 use case_rows::writing::{TEXT_LEN, put_number, put_refused, put_said, put_signed, put_text};
 use component::{Cell, CellCoord, CellId};

@@ -1,4 +1,6 @@
 // A question is asked, and its answer put down as text.
+#![tactic(auto)]
+
 use ask::{Depth, Flooding, IdOf, Listing};
 use case_answers::{put_count, put_group, put_id, put_kind, put_where};
 use case_lists::items::{ANSWER_LEN, MARK, MOST_ROOM, put_flood, put_list};

@@ -1,5 +1,9 @@
 // The rows of a text, and the numbers and words of a row.
-ghost use Rattle.std.specs.Prelude.{◌<◌, ◌≤◌, length};
+ghost use Rattle.std.specs.Prelude.{◌<◌, ◌≤◌, length, take, IfOk};
+ghost use Rattle.std.specs.Io.KnownBytes.{Consumes, IsAtEnd};
+
+use std::io;
+use std::io::Read;
 
 // What is read of a row: its numbers, how often it is done, by how much each number grows each time, and its words.
 pub const TIMES: usize = 32;
@@ -9,6 +13,23 @@ pub const STEPS: usize = 33;
 pub const WORDS: usize = 64;
 
 pub const ROW_LEN: usize = 72;
+
+// Bytes are read until a buffer is full or the reader is at its end; how many of the buffer they take.
+pub fn read_full<R: Read>(reader: &mut R, buf: &mut [u8]) -> io::Result<usize>
+    ensures bound { IfOk result (λ n. n ≤ length buf.new) }
+    ensures bytes { IfOk result (λ n. Consumes (R.remaining reader.old) (R.remaining reader.new) (take n buf.new)) }
+    ensures end { IfOk result (λ n. n < length buf.new → IsAtEnd (R.remaining reader.new)) }
+{
+    let mut done = 0;
+    while done < buf.len() {
+        let n = reader.read(&mut buf[done..])?;
+        if n == 0 {
+            break;
+        }
+        done += n;
+    }
+    Ok(done)
+}
 
 // The first place of a byte; the length where it stands nowhere.
 pub fn find(text: &[u8], b: u8) -> usize

@@ -1,4 +1,5 @@
 // Text is put together in a buffer; what does not fit is left out. The answer of each is how many bytes are used then.
+use itoa::Buffer;
 use refusal::Refusal;
 
 // How many bytes an answer's text may have.
@@ -26,10 +27,9 @@ pub fn put_text(out: &mut [u8; TEXT_LEN], used: usize, text: &[u8]) -> usize {
 
 // A number is put, behind a space.
 pub fn put_number(out: &mut [u8; TEXT_LEN], used: usize, n: u64) -> usize {
-    let mut digits = [0u8; 20];
-    let k = io::decimal(n, &mut digits);
+    let mut digits = Buffer::new();
     let u = put_byte(out, used, b' ');
-    put_text(out, u, &digits[..k])
+    put_text(out, u, digits.format(n).as_bytes())
 }
 
 // A number in two's complement is put, behind a space.
@@ -37,11 +37,14 @@ pub fn put_signed(out: &mut [u8; TEXT_LEN], used: usize, n: u64) -> usize {
     if n < 9223372036854775808 {
         return put_number(out, used, n);
     }
-    let mut digits = [0u8; 20];
-    let k = io::decimal(std::num::wrapping_sub_u64(0, n), &mut digits);
+    let mut digits = Buffer::new();
     let u = put_byte(out, used, b' ');
     let v = put_byte(out, u, b'-');
-    put_text(out, v, &digits[..k])
+    put_text(
+        out,
+        v,
+        digits.format(std::num::wrapping_sub_u64(0, n)).as_bytes(),
+    )
 }
 
 // A refusal is put, its number behind a space: of 2 with the point, of 4 and where else a place is told with the position and the axis.

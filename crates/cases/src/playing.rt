@@ -12,6 +12,8 @@ use case_rows::writing::{TEXT_LEN, put_number, put_text};
 use case_tables::drafting::draft_row;
 use case_tables::tables::change;
 use layout::STATE_LEN;
+use std::io;
+use std::io::Write;
 
 // A row that says how much is lent from there on; whether it was one.
 fn lend(desk: &mut [u64; DESK_LEN], row: &[u64; ROW_LEN]) -> bool {
@@ -134,63 +136,66 @@ fn put_answer(
 }
 
 // A row is played. What stands behind ` = ` is the answer that it expects.
-fn play_row(
+fn play_row<W: Write>(
+    out: &mut W,
     state: &mut [u64; YARD_LEN],
     kept: &mut [u64; YARD_LEN],
     draft: &mut [u64; YARD_LEN],
     batch: &mut [u64; BATCH_LEN],
     desk: &mut [u64; DESK_LEN],
     line: &[u8],
-) {
+) -> io::Result<()> {
     let mut row = [0u64; ROW_LEN];
     let len = line.len();
     let is = find(line, b'=');
     read_row(&line[0..is], &mut row);
     if len - is < 2 {
         if !do_all(state, kept, draft, batch, desk, &mut row) {
-            no_such_row(desk, line);
+            return no_such_row(out, desk, line);
         }
-        return;
+        return Ok(());
     }
-    let mut out = [0u8; TEXT_LEN];
-    let used = put_answer(&mut out, state, draft, batch, desk, &row);
-    judge(desk, line, &line[is + 2..len], &out, used);
+    let mut text = [0u8; TEXT_LEN];
+    let used = put_answer(&mut text, state, draft, batch, desk, &row);
+    judge(out, desk, line, &line[is + 2..len], &text, used)
 }
 
 // A line is played: a heading, which begins with #, or a row; an empty one says nothing.
-fn turn(
+fn turn<W: Write>(
+    out: &mut W,
     state: &mut [u64; YARD_LEN],
     kept: &mut [u64; YARD_LEN],
     draft: &mut [u64; YARD_LEN],
     batch: &mut [u64; BATCH_LEN],
     desk: &mut [u64; DESK_LEN],
     line: &[u8],
-) {
+) -> io::Result<()> {
     let end = row_end(line);
     one_more(desk, LINE);
     if end == 0 {
-        return;
+        return Ok(());
     }
     if line[0] == b'#' {
-        heading(desk, line);
-        return;
+        return heading(out, desk, line);
     }
-    play_row(state, kept, draft, batch, desk, &line[0..end]);
+    play_row(out, state, kept, draft, batch, desk, &line[0..end])
 }
 
 // All lines of a text are played.
-pub fn play_lines(
+pub fn play_lines<W: Write>(
+    out: &mut W,
     state: &mut [u64; YARD_LEN],
     kept: &mut [u64; YARD_LEN],
     draft: &mut [u64; YARD_LEN],
     batch: &mut [u64; BATCH_LEN],
     desk: &mut [u64; DESK_LEN],
     text: &[u8],
-) {
+) -> io::Result<()> {
     let mut at = 0;
     while at < text.len() {
         let end = line_end(text, at);
-        turn(state, kept, draft, batch, desk, &text[at..end]);
+        turn(out, state, kept, draft, batch, desk, &text[at..end])?;
         at = after_line(text, at, end);
     }
+    Ok(())
 }

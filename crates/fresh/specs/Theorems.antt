@@ -10,8 +10,8 @@ use Rattle.model.proofs.Laws.Tests.{T_true}
 use Rattle.model.proofs.Theorems.Kinds.{consistent-fresh-kind}
 use Rattle.layout.specs.State.{state_len, decode}
 use Rattle.layout.specs.Points.{long_enough, consistent_words}
-use Rattle.layout.specs.Theorems.DecodeEncode.{decode-longer}
-use Rattle.layout.specs.Theorems.Canonical.{image-consistent}
+use Rattle.layout.proofs.Theorems.DecodeEncode.{decode-longer}
+use Rattle.layout.proofs.Theorems.Canonical.{image-consistent}
 use Rattle.fresh.specs.Answer.{fresh_of, Exactly}
 use Rattle.fresh.specs.Laws.Image.{answered}
 

@@ -3,5 +3,3 @@ pub mod Rows
 pub mod State
 pub mod Points
 pub mod Facts
-pub mod Laws
-pub mod Theorems

@@ -1,9 +1,8 @@
 -- What a cell that opens or closes asks of the tables, and how it leaves them.
-use Prim.Native.Nat.{ℕ, suc, ◌+◌, ◌*◌, ◌≤◌}
-use mathlib.Core.Path.{◌≡◌, ap, ◌∙◌}
+use Prim.Native.Nat.{ℕ}
+use mathlib.Core.Path.{◌≡◌}
 use mathlib.Core.Bool.{true, false, cond}
 use mathlib.Core.List.{List, [], ◌∷◌}
-use lib.ListN.{length}
 use Rattle.component.specs.Laws.Adjacent.{range-room}
 use native.Mathlib.Omega.{arith}
 use Rattle.model.specs.Lists.{has, keys, put, drop_key, change}
@@ -11,8 +10,7 @@ use Rattle.model.specs.Cells.{Cell, same, below, touch_at}
 use Rattle.model.specs.Occupancy.{Occupancy, open_cell, close_cell}
 use Rattle.layout.specs.Widths.{cell_width, net_width}
 use Rattle.layout.specs.Rows.{neighbour_of}
-use Rattle.table.specs.Rows.{cell, key4, table4, stored4, is_table4, has_room4}
-use Rattle.table.specs.Laws.Next.{room-space}
+use Rattle.table.specs.Rows.{cell, table4, stored4, is_table4}
 use Rattle.map.specs.declared.Counts.{Counts}
 use Rattle.map.specs.Told.{TableIs, of_kind, told, noted}
 use Rattle.map.specs.Held.{Stored, Opens, Closes}

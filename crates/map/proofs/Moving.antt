@@ -16,7 +16,7 @@ use Rattle.model.proofs.Laws.Tables.{keys_length, free_of, get-drop-self, put-le
 use Rattle.model.proofs.Laws.Occupied.{occupied-leave}
 use Rattle.layout.specs.Widths.{entity_width}
 use Rattle.layout.specs.Rows.{entity_row, entities_image}
-use Rattle.layout.specs.Laws.Rows.{entities-wide}
+use Rattle.layout.proofs.Laws.Rows.{entities-wide}
 use Rattle.table.specs.Rows.{number, cell_words, table1, stored1, has_room1}
 use Rattle.table.specs.Laws.Kinds.{number-lawful}
 use Rattle.table.specs.Laws.Next.{room-space, put_next, drop-next}

@@ -18,7 +18,7 @@ use Rattle.model.proofs.Laws.Tables.{keys_length}
 use Rattle.model.proofs.Laws.Occupied.{not-occupied, at-occupied, occupied-asc}
 use Rattle.layout.specs.Widths.{crowd_width}
 use Rattle.layout.specs.Rows.{id_row, ids_image}
-use Rattle.layout.specs.Laws.Rows.{ids-wide}
+use Rattle.layout.proofs.Laws.Rows.{ids-wide}
 use Rattle.table.specs.Rows.{cell, table4, stored4, has_room4}
 use Rattle.table.specs.Laws.Kinds.{cell-lawful}
 use Rattle.table.specs.Laws.Next.{room-there, put_next, drop-next}

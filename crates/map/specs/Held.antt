@@ -3,7 +3,7 @@ use Rattle.std.specs.Prelude.{ℕ, suc, ◌*◌, ◌≤◌, ◌<◌, ◌≡◌, 
 use mathlib.Core.List.{List, Memᴰ as Mem}
 use Rattle.std.proofs.Math.Option.{Option, none, some}
 use Rattle.model.specs.Lists.{ascending, values}
-use Rattle.model.specs.Cells.{Cell, same, below, cell_in_range, touch_at}
+use Rattle.model.specs.Cells.{Cell, below, cell_in_range, touch_at}
 use Rattle.model.specs.Crowd.{how_many, tallied}
 use Rattle.model.specs.Occupancy.{Occupancy, occupied, remove, move_to, play}
 use Rattle.model.proofs.Laws.Sorted.{Asc}

@@ -1,1 +1,3 @@
+#![tactic(auto)]
+
 // The rules as definitions that compute, and their theorems; they stand in specs/.

@@ -7,7 +7,7 @@ use mathlib.Core.List.{List, [], ◌∷◌}
 use borrow.Author.Tests.{eq-eqb, ne_eqb}
 use lib.ListN.{length, get_or, set, length-set}
 use Rattle.neighbourhood.specs.Fronts.{Front, front, pushed}
-use Rattle.neighbourhood.specs.Laws.Pushes.{onto, pushed-old, pushed-new, pushed_none, pushed_grows}
+use Rattle.neighbourhood.proofs.Laws.Pushes.{onto, pushed-old, pushed-new, pushed_none, pushed_grows}
 
 -- From the front f₀ some of the rows L are pushed, and the rows R are left.
 pub record Going (label : ℕ) (L : List ℕ) (f₀ : Front) (R : List ℕ) (f : Front) : Type 0 where

@@ -1,3 +1,4 @@
 pub mod Following
+pub mod Laws
 pub mod Spreading
 pub mod Wave

@@ -29,10 +29,10 @@ use Rattle.layout.specs.Widths.{cell_width}
 use Rattle.neighbourhood.specs.Rows.{row_cell, row_mask, row_near, row_for, onward}
 use Rattle.neighbourhood.specs.Fronts.{Front, front, is_open, pushed}
 use Rattle.neighbourhood.specs.Standing.{Cells, open_cells, flood_from, Floodable, Flooded}
-use Rattle.neighbourhood.specs.Laws.Lines.{get_d-mem}
-use Rattle.neighbourhood.specs.Laws.Reads.{row-once, row-bit, row-lead, onward-under, onward-once}
-use Rattle.neighbourhood.specs.Laws.Unmarked.{counted, onward-touch, touch-onward, onward-back, open-less, open-touching, open-once, open_in}
-use Rattle.neighbourhood.specs.Laws.Pushes.{fresh, Pushed, pushed-all}
+use Rattle.neighbourhood.proofs.Laws.Lines.{get_d-mem}
+use Rattle.neighbourhood.proofs.Laws.Reads.{row-once, row-bit, row-lead, onward-under, onward-once}
+use Rattle.neighbourhood.proofs.Laws.Unmarked.{counted, onward-touch, touch-onward, onward-back, open-less, open-touching, open-once, open_in}
+use Rattle.neighbourhood.proofs.Laws.Pushes.{fresh, Pushed, pushed-all}
 use Rattle.neighbourhood.proofs.Spreading.{Spread, spread-start, spread-step, spread-flat, spread-levels, queue-more, mem-some}
 
 -- The rows that are queued.

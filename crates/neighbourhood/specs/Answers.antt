@@ -1,5 +1,5 @@
 -- How cells stand in the words of an answer, and what the functions that write answers are asked and promise.
-use Rattle.std.specs.Prelude.{ℕ, suc, ◌+◌, ◌*◌, ◌≤◌, ◌<◌, ◌≡◌, List, [], ◌∷◌, length, take, get_or}
+use Rattle.std.specs.Prelude.{ℕ, suc, ◌*◌, ◌≤◌, ◌<◌, ◌≡◌, List, [], ◌∷◌, length, take, get_or}
 use Rattle.component.specs.Stored.{signed_word}
 use Rattle.model.specs.Lists.{gather, each, keys}
 use Rattle.model.specs.Cells.{Cell, touch_at}

@@ -3,4 +3,3 @@ pub mod Fronts
 pub mod Standing
 pub mod Answers
 pub mod Beside
-pub mod Laws

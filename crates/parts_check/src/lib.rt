@@ -1,4 +1,6 @@
 // Whether ids are shared exactly by joined cells.
+#![tactic(auto)]
+
 ghost use Rattle.std.specs.Prelude.{◌≡◌, ℕ, ◌*◌, ◌≤◌, ◌<◌, length, List};
 ghost use Rattle.model.specs.Lists.{all, keys, count};
 ghost use Rattle.model.specs.Cells.{Cell as CellOf, touch_at};

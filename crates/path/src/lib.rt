@@ -1,4 +1,6 @@
 // The path that is shown between two cells, over the rows of the occupied cells.
+#![tactic(auto)]
+
 ghost use Rattle.std.specs.Prelude.{◌≡◌, List, ℕ, ◌*◌, ◌≤◌, ◌<◌, length};
 ghost use Rattle.model.specs.Cells.{Cell as CellOf};
 ghost use Rattle.model.specs.Update.{most_cells};

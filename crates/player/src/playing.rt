@@ -1,13 +1,16 @@
 // The batches of a script are played, and the yard is told after each.
-ghost use Rattle.std.specs.Prelude.{◌+◌, ◌*◌, ◌≤◌, length};
+ghost use Rattle.std.specs.Prelude.{◌+◌, ◌*◌, ◌≤◌, length, IfOk};
 ghost use Rattle.layout.specs.Widths.{move_width};
-ghost use Rattle.script_reader.specs.Places.{Counts};
+ghost use Rattle.script_reader.specs.Places.{Counts, MovesOn};
+ghost use Rattle.script_writer.specs.Written.{Grows};
 ghost use Rattle.player.specs.Places.{Plays};
 
 use fresh::fresh;
 use layout::{MOST_EVENTS, MOVE_WIDTH, STATE_LEN};
 use script_reader::{Ending, Events, MOVES_LEN, Reader, first_reader, gather, offset};
 use script_writer::{Line, answer, flush, put};
+use std::io;
+use std::io::{Input, Print, Read, Write};
 use table::write_row;
 use yard::update;
 
@@ -55,46 +58,73 @@ fn last_line(v: Events) -> Line {
     }
 }
 
-// A batch is read and answered.
-fn turn(state: &mut [u64; STATE_LEN], input: &mut [u8], output: &mut [u8], p: Progress) -> Progress
+// A batch is read and answered. Where reading fails, the lines in the buffer are written out first. After an error the batch may have
+// updated the state, and its lines are not all written.
+fn turn<R: Read, W: Write>(
+    from: &mut R,
+    to: &mut W,
+    state: &mut [u64; STATE_LEN],
+    input: &mut [u8],
+    output: &mut [u8],
+    p: Progress,
+) -> io::Result<Progress>
     requires { Plays (length input.old) (length output.old) p }
-    ensures { Plays (length input.old) (length output.old) result }
+    ensures ok { IfOk result (λ next. Plays (length input.old) (length output.old) next) }
+    ensures moves { MovesOn (R.remaining from.old) (R.remaining from.new) }
+    ensures grows { Grows (W.contents to.old) (W.contents to.new) }
 {
     let mut removals = [0u64; MOST_EVENTS];
     let mut moves = [0u64; MOVES_LEN];
     let number = p.number;
     let used = p.used;
-    let g = gather(input, &mut removals, &mut moves, p.reader);
+    let g = match gather(from, input, &mut removals, &mut moves, p.reader) {
+        Ok(g) => g,
+        Err(e) => {
+            flush(to, output, used)?;
+            return Err(e);
+        }
+    };
     let reader = g.reader;
     let events = g.events;
     let ending = g.ending;
-    match ending {
+    let next = match ending {
         Ending::Run => {
             let code = run(state, &removals, &moves, events);
             Progress {
                 reader,
                 number: std::num::wrapping_add_u64(number, 1),
-                used: answer(state, output, used, number, code),
+                used: answer(to, state, output, used, number, code)?,
                 going: true,
             }
         },
         Ending::Bad => Progress {
             reader,
             number,
-            used: put(output, used, Line::Wrong(offset(reader))),
+            used: put(to, output, used, Line::Wrong(offset(reader)))?,
             going: false,
         },
         Ending::Reading | Ending::Out => Progress {
             reader,
             number,
-            used: put(output, used, last_line(events)),
+            used: put(to, output, used, last_line(events))?,
             going: false,
         },
-    }
+    };
+    Ok(next)
 }
 
 // All batches are read and answered. The turns are counted down from a number that no input uses up, so the loop is seen to end.
-fn play_all(state: &mut [u64; STATE_LEN], input: &mut [u8], output: &mut [u8]) {
+// After an error in reading the answers to the batches before it are written; after one in writing some may not be.
+fn play_all<R: Read, W: Write>(
+    from: &mut R,
+    to: &mut W,
+    state: &mut [u64; STATE_LEN],
+    input: &mut [u8],
+    output: &mut [u8],
+) -> io::Result<()>
+    ensures moves { MovesOn (R.remaining from.old) (R.remaining from.new) }
+    ensures grows { Grows (W.contents to.old) (W.contents to.new) }
+{
     let mut p = Progress {
         reader: first_reader(),
         number: 1,
@@ -103,18 +133,20 @@ fn play_all(state: &mut [u64; STATE_LEN], input: &mut [u8], output: &mut [u8]) {
     };
     let mut turns = u64::MAX;
     while turns > 0 && p.going {
-        p = turn(state, input, output, p);
+        p = turn(from, to, state, input, output, p)?;
         turns -= 1;
     }
     let used = p.used;
-    flush(output, used);
+    flush(to, output, used)
 }
 
-// The script on standard input is played in a fresh yard, whose first id is 0.
-pub fn play() {
+// The script on standard input is played in a fresh yard, whose first id is 0. It ends early where a read or a write fails.
+pub fn play(rt: &(impl Input + Print)) -> io::Result<()> {
     let mut state = [0u64; STATE_LEN];
     let mut input = [0u8; 65536];
     let mut output = [0u8; 65536];
     fresh(&mut state, 0, SCRIPT_KIND);
-    play_all(&mut state, &mut input, &mut output);
+    let mut from = rt.reader();
+    let mut to = io::writer(rt);
+    play_all(&mut from, &mut to, &mut state, &mut input, &mut output)
 }

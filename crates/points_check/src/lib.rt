@@ -1,4 +1,6 @@
 // The points of consistency that go along rows, each over the tables that it speaks of.
+#![tactic(auto)]
+
 ghost use Rattle.std.specs.Prelude.{◌≡◌, true, cond, not, ◌+◌, ◌*◌, ◌≤◌, min, length, take, eqb, ltb};
 ghost use Rattle.model.specs.Lists.{all, has, equal, keys, values};
 ghost use Rattle.model.specs.Cells.{same, cell_in_range};

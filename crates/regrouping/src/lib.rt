@@ -1,4 +1,6 @@
 // The groups of a yard after its events: the cells with an id are regrouped in lent tables, and the group records are built.
+#![tactic(auto)]
+
 ghost use Rattle.std.specs.Prelude.{ℕ, List};
 ghost use Rattle.model.specs.Cells.{Cell, touch_at};
 ghost use Rattle.model.specs.Groups.{Groups, regroup};

@@ -1,77 +1,75 @@
 // An answer in a line: numbers in decimals, floats by their bits.
 use component::CellId;
-use libc::STDOUT_FILENO;
 use metres::{Answer, Margin, Offsets};
 use refusal::Refusal;
+use std::io;
 
-fn text(s: &[u8]) {
-    io::write_all(STDOUT_FILENO, s);
+fn text(rt: &impl Print, s: &[u8]) -> io::Result<()> {
+    rt.write_all(s)
 }
 
-fn number(name: &[u8], n: u64) {
-    text(name);
-    io::print_decimal(STDOUT_FILENO, n);
+fn number(rt: &impl Print, name: &[u8], n: u64) -> io::Result<()> {
+    text(rt, name)?;
+    print!(rt; "{n}")
 }
 
 // A coordinate, from its stored form, which is 2^31 more.
-fn coordinate(n: u64) {
+fn coordinate(rt: &impl Print, n: u64) -> io::Result<()> {
     let zero = component::bias(0);
     if n < zero {
-        number(b" -", zero - n);
-        return;
+        return number(rt, b" -", zero - n);
     }
-    number(b" ", n - zero);
+    number(rt, b" ", n - zero)
 }
 
 // A float by its bits. A NaN alone differs from itself.
-fn float(x: f64) {
-    text(b" ");
+fn float(rt: &impl Print, x: f64) -> io::Result<()> {
+    text(rt, b" ")?;
     if x != x {
-        text(b"nan");
-        return;
+        return text(rt, b"nan");
     }
-    io::print_hex(STDOUT_FILENO, f64::to_bits(x), 16);
+    print!(rt; "{:016x}", f64::to_bits(x))
 }
 
-fn margin(m: Margin) {
+fn margin(rt: &impl Print, m: Margin) -> io::Result<()> {
     match m {
-        Margin::Unsaid => text(b" fix"),
+        Margin::Unsaid => text(rt, b" fix"),
         Margin::Within(err) => {
-            text(b" within");
-            float(err);
+            text(rt, b" within")?;
+            float(rt, err)
         }
     }
 }
 
-fn event(entity: u64, cell: CellId, o: Offsets) {
+fn event(rt: &impl Print, entity: u64, cell: CellId, o: Offsets) -> io::Result<()> {
     let c = component::stored(cell);
-    number(b"event entity ", entity);
-    number(b" grid ", c.grid);
-    text(b" cell");
-    coordinate(c.x);
-    coordinate(c.y);
-    coordinate(c.z);
-    text(b" offset");
-    float(o.x);
-    float(o.y);
-    float(o.z);
+    number(rt, b"event entity ", entity)?;
+    number(rt, b" grid ", c.grid)?;
+    text(rt, b" cell")?;
+    coordinate(rt, c.x)?;
+    coordinate(rt, c.y)?;
+    coordinate(rt, c.z)?;
+    text(rt, b" offset")?;
+    float(rt, o.x)?;
+    float(rt, o.y)?;
+    float(rt, o.z)
 }
 
-fn refused(r: Refusal) {
-    number(b"refused ", r.number);
-    number(b" at ", r.at);
-    number(b" axis ", r.axis);
+fn refused(rt: &impl Print, r: Refusal) -> io::Result<()> {
+    number(rt, b"refused ", r.number)?;
+    number(rt, b" at ", r.at)?;
+    number(rt, b" axis ", r.axis)
 }
 
-pub fn line(a: Answer) {
+pub fn line(rt: &impl Print, a: Answer) -> io::Result<()> {
     match a {
         Answer::Event(e) => {
             let m = e.margin;
-            event(e.entity, e.cell, e.offsets);
-            margin(m);
+            event(rt, e.entity, e.cell, e.offsets)?;
+            margin(rt, m)?;
         }
-        Answer::NoEvent => text(b"no event"),
-        Answer::Refused(r) => refused(r),
+        Answer::NoEvent => text(rt, b"no event")?,
+        Answer::Refused(r) => refused(rt, r)?,
     }
-    text(b"\n");
+    text(rt, b"\n")
 }

@@ -1,126 +1,125 @@
 // What is told of reports, batches and entities, a line each.
 use ask::{IdOf, KindOf, Where};
 use component::CellId;
-use libc::STDOUT_FILENO;
 use refusal::Refusal;
 use settings::Reading;
+use std::io;
+use std::io::Write;
 
-fn say(text: &[u8]) {
-    io::write_all(STDOUT_FILENO, text);
+fn say<W: Write>(out: &mut W, text: &[u8]) -> io::Result<()> {
+    out.write_all(text)
 }
 
-fn number(text: &[u8], n: u64) {
-    say(text);
-    io::print_decimal(STDOUT_FILENO, n);
+fn number<W: Write>(out: &mut W, text: &[u8], n: u64) -> io::Result<()> {
+    say(out, text)?;
+    write!(out, "{n}")
 }
 
 // A coordinate, from its stored form, which is 2^31 more.
-fn coordinate(n: u64) {
+fn coordinate<W: Write>(out: &mut W, n: u64) -> io::Result<()> {
     let zero = component::bias(0);
     if n < zero {
-        number(b" -", zero - n);
-        return;
+        return number(out, b" -", zero - n);
     }
-    number(b" ", n - zero);
+    number(out, b" ", n - zero)
 }
 
-fn cell(c: CellId) {
+fn cell<W: Write>(out: &mut W, c: CellId) -> io::Result<()> {
     let d = component::stored(c);
-    coordinate(d.x);
-    coordinate(d.y);
-    coordinate(d.z);
+    coordinate(out, d.x)?;
+    coordinate(out, d.y)?;
+    coordinate(out, d.z)
 }
 
 // What the reader says of a grid: its edge, its touching kind and its origin.
-pub fn settings(grid: u64, r: Reading) {
-    number(b"settings of grid ", grid);
-    say(b": ");
+pub fn settings<W: Write>(out: &mut W, grid: u64, r: Reading) -> io::Result<()> {
+    number(out, b"settings of grid ", grid)?;
+    say(out, b": ")?;
     match r {
         Reading::Found(s) => {
-            number(b"edge ", s.edge as u64);
-            number(b" kind ", s.kind as u64);
-            say(b" origin");
-            coordinate(component::bias(s.x));
-            coordinate(component::bias(s.y));
-            coordinate(component::bias(s.z));
+            number(out, b"edge ", s.edge as u64)?;
+            number(out, b" kind ", s.kind as u64)?;
+            say(out, b" origin")?;
+            coordinate(out, component::bias(s.x))?;
+            coordinate(out, component::bias(s.y))?;
+            coordinate(out, component::bias(s.z))?;
         }
-        Reading::NotFound => say(b"not found"),
-        Reading::Overlong => say(b"overlong"),
-        Reading::Faulty(_, at) => number(b"faulty at ", at as u64),
+        Reading::NotFound => say(out, b"not found")?,
+        Reading::Overlong => say(out, b"overlong")?,
+        Reading::Faulty(_, at) => number(out, b"faulty at ", at as u64)?,
     }
-    say(b"\n");
+    say(out, b"\n")
 }
 
 // What a fresh state was answered by, and what touching means in it.
-pub fn fresh(state: &[u64], code: u64) {
-    number(b"fresh state: code ", code);
+pub fn fresh<W: Write>(out: &mut W, state: &[u64], code: u64) -> io::Result<()> {
+    number(out, b"fresh state: code ", code)?;
     match ask::kind_of(state) {
         KindOf::Is(kind) => {
-            number(b" kind ", kind);
-            say(b"\n");
+            number(out, b" kind ", kind)?;
+            say(out, b"\n")
         }
-        KindOf::Refused(r) => refusal(b" refused ", r),
+        KindOf::Refused(r) => refusal(out, b" refused ", r),
     }
 }
 
-pub fn event(entity: u64, c: CellId) {
-    number(b"report of ", entity);
-    say(b": to");
-    cell(c);
-    say(b"\n");
+pub fn event<W: Write>(out: &mut W, entity: u64, c: CellId) -> io::Result<()> {
+    number(out, b"report of ", entity)?;
+    say(out, b": to")?;
+    cell(out, c)?;
+    say(out, b"\n")
 }
 
-pub fn none(entity: u64) {
-    number(b"report of ", entity);
-    say(b": no event\n");
+pub fn none<W: Write>(out: &mut W, entity: u64) -> io::Result<()> {
+    number(out, b"report of ", entity)?;
+    say(out, b": no event\n")
 }
 
 // A refusal: its number, and where the fault is.
-fn refusal(said: &[u8], r: Refusal) {
-    number(said, r.number);
-    number(b" at ", r.at);
-    number(b" axis ", r.axis);
-    say(b"\n");
+fn refusal<W: Write>(out: &mut W, said: &[u8], r: Refusal) -> io::Result<()> {
+    number(out, said, r.number)?;
+    number(out, b" at ", r.at)?;
+    number(out, b" axis ", r.axis)?;
+    say(out, b"\n")
 }
 
-pub fn refused(entity: u64, r: Refusal) {
-    number(b"report of ", entity);
-    refusal(b": refused ", r);
+pub fn refused<W: Write>(out: &mut W, entity: u64, r: Refusal) -> io::Result<()> {
+    number(out, b"report of ", entity)?;
+    refusal(out, b": refused ", r)
 }
 
 // What a batch was answered by; of a refused one also where the fault is.
-pub fn batch(moves: u64, r: Refusal) {
-    number(b"batch of ", moves);
+pub fn batch<W: Write>(out: &mut W, moves: u64, r: Refusal) -> io::Result<()> {
+    number(out, b"batch of ", moves)?;
     if r.number != 0 {
-        refusal(b" moves: refused ", r);
-        return;
+        return refusal(out, b" moves: refused ", r);
     }
-    say(b" moves: code 0\n");
+    say(out, b" moves: code 0\n")
 }
 
 // Where an entity stands, and the id of its group.
-pub fn stands(state: &[u64], entity: u64) {
+pub fn stands<W: Write>(out: &mut W, state: &[u64], entity: u64) -> io::Result<()> {
     match ask::where_is(state, entity) {
         Where::Found(c) => {
-            number(b"entity ", entity);
-            cell(c);
-            group(state, c);
+            number(out, b"entity ", entity)?;
+            cell(out, c)?;
+            group(out, state, c)
         }
         Where::NotFound => {
-            number(b"entity ", entity);
-            say(b" stands nowhere\n");
+            number(out, b"entity ", entity)?;
+            say(out, b" stands nowhere\n")
         }
-        Where::Refused(r) => refusal(b"refused ", r),
+        Where::Refused(r) => refusal(out, b"refused ", r),
     }
 }
 
-fn group(state: &[u64], c: CellId) {
+fn group<W: Write>(out: &mut W, state: &[u64], c: CellId) -> io::Result<()> {
     match ask::id_of(state, c) {
         IdOf::Found(id) => {
-            number(b" group ", id);
-            say(b"\n");
+            number(out, b" group ", id)?;
+            say(out, b"\n")
         }
-        IdOf::NotFound => say(b" no group\n"),
-        IdOf::Refused(r) => refusal(b" refused ", r),
+        IdOf::NotFound => say(out, b" no group\n"),
+        IdOf::Refused(r) => refusal(out, b" refused ", r),
     }
 }

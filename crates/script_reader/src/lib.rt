@@ -1,11 +1,16 @@
-// The records of a script are read from standard input, batch by batch.
-ghost use Rattle.std.specs.Prelude.{◌≡◌, ◌+◌, ◌≤◌, length};
+// The records of a script are read, batch by batch.
+#![tactic(auto)]
+
+ghost use Rattle.std.specs.Prelude.{◌≡◌, ◌+◌, ◌<◌, ◌≤◌, length, take, IfOk};
+ghost use Rattle.std.specs.Io.{ReadsAtMost};
+ghost use Rattle.std.specs.Io.KnownBytes.{Consumes, IsAtEnd};
 ghost use Rattle.script.specs.Records.{step_len};
-ghost use Rattle.script_reader.specs.Places.{Reads, Counts, Gathers};
+ghost use Rattle.script_reader.specs.Places.{Reads, Counts, Gathers, MovesOn};
 
 use layout::{MOST_EVENTS, MOVE_WIDTH};
-use libc::STDIN_FILENO;
 use script::{Moved, Step, step, step_len};
+use std::io;
+use std::io::Read;
 
 // How many words the moves of a batch have at most.
 pub const MOVES_LEN: usize = MOVE_WIDTH * MOST_EVENTS;
@@ -108,22 +113,43 @@ fn to_front(bytes: &mut [u8], from: usize, n: usize)
     }
 }
 
-// The bytes that are still to be read come to the front, and more are read behind them.
-fn refill(input: &mut [u8], r: Reader) -> Reader
+// Bytes are read until the buffer is full or the input ends; the answer is how many there are. After an error the bytes that were read
+// stand at the buffer's start, and are not counted.
+fn read_full<R: Read>(from: &mut R, buf: &mut [u8]) -> io::Result<usize>
+    ensures bound { ReadsAtMost result buf.new }
+    ensures ok { IfOk result (λ n. Consumes (R.remaining from.old) (R.remaining from.new) (take n buf.new)) }
+    ensures end { IfOk result (λ n. n < length buf.old → IsAtEnd (R.remaining from.new)) }
+    ensures moves { MovesOn (R.remaining from.old) (R.remaining from.new) }
+{
+    let mut done = 0;
+    while done < buf.len() {
+        let n = from.read(&mut buf[done..])?;
+        if n == 0 {
+            break;
+        }
+        done += n;
+    }
+    Ok(done)
+}
+
+// The bytes that are still to be read come to the front, and more are read behind them. After an error those that were read before it are
+// lost.
+fn refill<R: Read>(from: &mut R, input: &mut [u8], r: Reader) -> io::Result<Reader>
     requires { Reads (length input.old) r }
-    ensures { Reads (length input.old) result }
+    ensures ok { IfOk result (λ next. Reads (length input.old) next) }
+    ensures moves { MovesOn (R.remaining from.old) (R.remaining from.new) }
 {
     let at = r.at;
     let left = r.end - at;
     to_front(input, at, left);
-    let got = io::read_full(STDIN_FILENO, &mut input[left..]);
+    let got = read_full(from, &mut input[left..])?;
     let end = left + got;
-    Reader {
+    Ok(Reader {
         at: 0,
         end,
         base: offset(r),
         last: end < input.len(),
-    }
+    })
 }
 
 // A removal is kept where there is room for it.
@@ -174,21 +200,23 @@ fn add_move(moves: &mut [u64; MOVES_LEN], v: Events, to: Moved) -> Events
     }
 }
 
-// One record is read, or more bytes are.
-fn take(
+// One record is read, or more bytes are. After an error nothing is kept of the batch.
+fn take<R: Read>(
+    from: &mut R,
     input: &mut [u8],
     removals: &mut [u64; MOST_EVENTS],
     moves: &mut [u64; MOVES_LEN],
     g: Gathered,
-) -> Gathered
+) -> io::Result<Gathered>
     requires { Gathers (length input.old) g }
-    ensures { Gathers (length input.old) result }
+    ensures ok { IfOk result (λ next. Gathers (length input.old) next) }
+    ensures moves { MovesOn (R.remaining from.old) (R.remaining from.new) }
 {
     let r = g.reader;
     let v = g.events;
     let s = next_step(input, r);
     let next = passed(r, step_len(s));
-    match s {
+    let taken = match s {
         Step::Remove(e) => Gathered {
             reader: next,
             events: add_removal(removals, v, e),
@@ -210,7 +238,7 @@ fn take(
             ending: Ending::Bad,
         },
         Step::More => Gathered {
-            reader: refill(input, r),
+            reader: refill(from, input, r)?,
             events: v,
             ending: Ending::Reading,
         },
@@ -219,7 +247,8 @@ fn take(
             events: v,
             ending: Ending::Out,
         },
-    }
+    };
+    Ok(taken)
 }
 
 // Whether the records of a batch do not end yet.
@@ -234,14 +263,17 @@ fn is_reading(g: Gathered) -> bool {
 }
 
 // The records of a batch are read. The turns are counted down from a number that no input uses up, so the loop is seen to end.
-pub fn gather(
+// After an error nothing is kept of the batch, and reading does not go on.
+pub fn gather<R: Read>(
+    from: &mut R,
     input: &mut [u8],
     removals: &mut [u64; MOST_EVENTS],
     moves: &mut [u64; MOVES_LEN],
     r: Reader,
-) -> Gathered
+) -> io::Result<Gathered>
     requires { Reads (length input.old) r }
-    ensures { Gathers (length input.old) result }
+    ensures ok { IfOk result (λ g. Gathers (length input.old) g) }
+    ensures moves { MovesOn (R.remaining from.old) (R.remaining from.new) }
 {
     let mut g = Gathered {
         reader: r,
@@ -254,8 +286,8 @@ pub fn gather(
     };
     let mut turns = u64::MAX;
     while turns > 0 && is_reading(g) {
-        g = take(input, removals, moves, g);
+        g = take(from, input, removals, moves, g)?;
         turns -= 1;
     }
-    g
+    Ok(g)
 }

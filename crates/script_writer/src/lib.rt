@@ -1,4 +1,6 @@
-// The lines of a script are written to standard output: what answers a batch, and what a script ends by.
+// The lines of a script are written: what answers a batch, and what a script ends by.
+#![tactic(auto)]
+
 mod answering;
 mod lines;
 

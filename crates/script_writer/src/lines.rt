@@ -1,8 +1,11 @@
-// Lines are collected in a buffer, which is written to standard output when it is nearly full.
-ghost use Rattle.std.specs.Prelude.{◌≤◌, length};
+// Lines are collected in a buffer, which is written out when it is nearly full.
+ghost use Rattle.std.specs.Prelude.{◌≡◌, ◌≤◌, length, take, IfOk, OnOk, OnErr};
+ghost use Rattle.std.specs.Io.KnownBytes.{Appends};
+ghost use Rattle.script_writer.specs.Written.{Grows};
 
-use libc::STDOUT_FILENO;
 use script::{batch_line, cell_line, end_line, entered_line, left_line, open_line, wrong_line};
+use std::io;
+use std::io::{ErrorKind, Write};
 
 // A line of the answer; a cell is its grid, x, y and z.
 #[derive(Clone, Copy)]
@@ -34,30 +37,51 @@ fn write_line(out: &mut [u8], line: Line) -> usize
     }
 }
 
-// The first bytes of the buffer are written out.
-pub fn flush(output: &[u8], used: usize)
-    requires { used ≤ length output.now }
+// All the bytes are written out. Where a write fails, or takes nothing, some of the first ones may have been.
+fn write_all<W: Write>(to: &mut W, bytes: &[u8]) -> io::Result<()>
+    ensures ok { OnOk result (Appends (W.contents to.old) (W.contents to.new) bytes.now) }
+    ensures grows { Grows (W.contents to.old) (W.contents to.new) }
 {
-    io::write_all(STDOUT_FILENO, &output[..used]);
+    let mut done = 0;
+    while done < bytes.len() {
+        let n = to.write(&bytes[done..])?;
+        if n == 0 {
+            return Err(io::Error::from(ErrorKind::WriteZero));
+        }
+        done += n;
+    }
+    Ok(())
+}
+
+// The first bytes of the buffer are written out. After an error some of them may have been.
+pub fn flush<W: Write>(to: &mut W, output: &[u8], used: usize) -> io::Result<()>
+    requires { used ≤ length output.now }
+    ensures ok { OnOk result (Appends (W.contents to.old) (W.contents to.new) (take used output.now)) }
+    ensures grows { Grows (W.contents to.old) (W.contents to.new) }
+{
+    write_all(to, &output[..used])
 }
 
 // Where a next line goes: behind those in the buffer, or at its start, once they are written out.
-fn room(output: &[u8], used: usize) -> usize
+fn room<W: Write>(to: &mut W, output: &[u8], used: usize) -> io::Result<usize>
     requires { used ≤ length output.now }
-    ensures { result ≤ length output.now }
+    ensures ok { IfOk result (λ n. n ≤ length output.now) }
+    ensures grows { Grows (W.contents to.old) (W.contents to.new) }
 {
     if output.len() - used < 128 {
-        flush(output, used);
-        return 0;
+        flush(to, output, used)?;
+        return Ok(0);
     }
-    used
+    Ok(used)
 }
 
-// A line is put behind those in the buffer; the answer is how many of its bytes are used.
-pub fn put(output: &mut [u8], used: usize, line: Line) -> usize
+// A line is put behind those in the buffer; the answer is how many of its bytes are used. After an error the buffer is as it was.
+pub fn put<W: Write>(to: &mut W, output: &mut [u8], used: usize, line: Line) -> io::Result<usize>
     requires { used ≤ length output.old }
-    ensures { result ≤ length output.old }
+    ensures ok { IfOk result (λ n. n ≤ length output.old) }
+    ensures err { OnErr result (output.new ≡ output.old) }
+    ensures grows { Grows (W.contents to.old) (W.contents to.new) }
 {
-    let at = room(output, used);
-    at + write_line(&mut output[at..], line)
+    let at = room(to, output, used)?;
+    Ok(at + write_line(&mut output[at..], line))
 }

@@ -1,13 +1,15 @@
 // Ten thousand records are written and each grid's last is kept, to be timed from outside: of as many grids, and of a hundred.
-use libc::STDOUT_FILENO;
-use settings::{Keeping, Settings, Writing};
+#![tactic(auto)]
 
-fn say(text: &[u8]) {
-    io::write_all(STDOUT_FILENO, text);
+use settings::{Keeping, Settings, Writing};
+use std::io;
+
+fn say(rt: &impl Print, text: &[u8]) -> io::Result<()> {
+    rt.write_all(text)
 }
 
-fn say_number(n: usize) {
-    io::print_decimal(STDOUT_FILENO, n as u64);
+fn say_number(rt: &impl Print, n: usize) -> io::Result<()> {
+    print!(rt; "{n}")
 }
 
 // A record of a grid is written behind the first n bytes; the new length, or n where there is no room.
@@ -51,31 +53,31 @@ fn fill(s: &mut [u8], pattern: u64) -> usize {
 }
 
 // They are written, and each grid's last is kept.
-fn run(s: &mut [u8], scratch: &mut [u64], pattern: u64) {
+fn run(rt: &impl Print, s: &mut [u8], scratch: &mut [u64], pattern: u64) -> io::Result<()> {
     let n = fill(s, pattern);
-    say_number(n);
+    say_number(rt, n)?;
     match settings::keep_last(s, n, scratch) {
         Keeping::Length(m) => {
-            say(b" bytes, kept ");
-            say_number(m);
+            say(rt, b" bytes, kept ")?;
+            say_number(rt, m)?;
         }
-        Keeping::Overlong => say(b" overlong"),
+        Keeping::Overlong => say(rt, b" overlong")?,
         Keeping::Faulty(_, at) => {
-            say(b" faulty at ");
-            say_number(at);
+            say(rt, b" faulty at ")?;
+            say_number(rt, at)?;
         }
     }
-    say(b"\n");
+    say(rt, b"\n")
 }
 
-fn all(s: &mut [u8], scratch: &mut [u64]) {
-    run(s, scratch, 0);
-    run(s, scratch, 1);
-    run(s, scratch, 2);
+fn all(rt: &impl Print, s: &mut [u8], scratch: &mut [u64]) -> io::Result<()> {
+    run(rt, s, scratch, 0)?;
+    run(rt, s, scratch, 1)?;
+    run(rt, s, scratch, 2)
 }
 
-fn main() {
+fn main(rt: HostRuntime) -> io::Result<()> {
     let mut s = [0u8; 240_000];
     let mut scratch = [0u64; 40_000];
-    all(&mut s, &mut scratch);
+    all(&rt, &mut s, &mut scratch)
 }

@@ -3,6 +3,8 @@ use crate::shown;
 use case_rows::reading::{ROW_LEN, WORDS};
 use case_rows::words::place;
 use settings::Settings;
+use std::io;
+use std::io::Write;
 
 // The words of these rows, each letter a byte of a number.
 const READ: u64 = 0x72656164;
@@ -40,8 +42,12 @@ fn told(row: &[u64; ROW_LEN]) -> Settings {
     }
 }
 
-fn read(s: &[u8], n: usize, grid: u64) {
-    shown::readings(settings::read_v1(s, n, grid), settings::read_v2(s, n, grid));
+fn read<W: Write>(out: &mut W, s: &[u8], n: usize, grid: u64) -> io::Result<()> {
+    shown::readings(
+        out,
+        settings::read_v1(s, n, grid),
+        settings::read_v2(s, n, grid),
+    )
 }
 
 // A byte is put at a place.
@@ -65,17 +71,28 @@ fn old(s: &mut [u8], at: usize, grid: u64, edge: u8, kind: u8) {
 }
 
 // What a row says is done.
-pub fn call(s: &mut [u8], t: &mut [u64], row: &[u64; ROW_LEN]) {
+pub fn call<W: Write>(
+    out: &mut W,
+    s: &mut [u8],
+    t: &mut [u64],
+    row: &[u64; ROW_LEN],
+) -> io::Result<()> {
     let key = row[WORDS];
     let n = place(row[0]);
     match key {
-        READ => read(s, n, row[1]),
-        WRITE => shown::writing(settings::write(s, n, row[1], told(row))),
-        KEEP => shown::keeping(settings::keep_last(s, n, t)),
-        PUT => put(s, n, byte(row[1])),
-        OLD => old(s, n, row[1], byte(row[2]), byte(row[3])),
-        SHOW_BYTES => shown::bytes(s),
-        SHOW_WORDS => shown::words(t),
-        _ => shown::no_such_row(),
+        READ => read(out, s, n, row[1]),
+        WRITE => shown::writing(out, settings::write(s, n, row[1], told(row))),
+        KEEP => shown::keeping(out, settings::keep_last(s, n, t)),
+        PUT => {
+            put(s, n, byte(row[1]));
+            Ok(())
+        }
+        OLD => {
+            old(s, n, row[1], byte(row[2]), byte(row[3]));
+            Ok(())
+        }
+        SHOW_BYTES => shown::bytes(out, s),
+        SHOW_WORDS => shown::words(out, t),
+        _ => shown::no_such_row(out),
     }
 }

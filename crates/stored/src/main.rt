@@ -1,12 +1,15 @@
 // Stored settings at the ends of what is allowed: the calls of standard input's rows, what each answers, and the bytes after it.
+#![tactic(auto)]
+
 mod calls;
 mod playing;
 mod shown;
 
-use libc::STDIN_FILENO;
+use case_rows::reading::read_full;
+use std::io;
 
-fn main() {
-    let mut text = io::large_buffer();
-    let n = io::read_full(STDIN_FILENO, &mut text);
-    playing::play(&text[..n]);
+fn main(rt: HostRuntime) -> io::Result<()> {
+    let mut text = [0u8; 65536];
+    let n = read_full(&mut rt.stdin(), &mut text)?;
+    playing::play(&mut rt.stdout(), &text[..n])
 }

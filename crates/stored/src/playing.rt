@@ -2,6 +2,8 @@
 use crate::{calls, shown};
 use case_rows::reading::{ROW_LEN, WORDS, after_line, line_end, read_row, row_end};
 use case_rows::words::place;
+use std::io;
+use std::io::Write;
 
 const MOST_BYTES: usize = 80;
 
@@ -53,46 +55,61 @@ fn lend(
 }
 
 // What a row says is done on the first n bytes and the first m words.
-fn call_on(s: &mut [u8], n: usize, t: &mut [u64], m: usize, row: &[u64; ROW_LEN]) {
+fn call_on<W: Write>(
+    out: &mut W,
+    s: &mut [u8],
+    n: usize,
+    t: &mut [u64],
+    m: usize,
+    row: &[u64; ROW_LEN],
+) -> io::Result<()> {
     if n > s.len() || m > t.len() {
-        shown::no_such_row();
-        return;
+        return shown::no_such_row(out);
     }
-    calls::call(&mut s[0..n], &mut t[0..m], row);
+    calls::call(out, &mut s[0..n], &mut t[0..m], row)
 }
 
 // A line is played; one with nothing but a note says nothing.
-fn turn(s: &mut [u8; MOST_BYTES], t: &mut [u64; MOST_WORDS], lent: &mut [usize; 2], line: &[u8]) {
+fn turn<W: Write>(
+    out: &mut W,
+    s: &mut [u8; MOST_BYTES],
+    t: &mut [u64; MOST_WORDS],
+    lent: &mut [usize; 2],
+    line: &[u8],
+) -> io::Result<()> {
     let end = row_end(line);
     if end == 0 {
-        return;
+        return Ok(());
     }
     let mut row = [0u64; ROW_LEN];
     read_row(&line[0..end], &mut row);
-    if !lend(s, t, lent, &row) {
-        call_on(s, lent[0], t, lent[1], &row);
+    if lend(s, t, lent, &row) {
+        return Ok(());
     }
+    call_on(out, s, lent[0], t, lent[1], &row)
 }
 
 // All lines of a text are played.
-fn play_lines(
+fn play_lines<W: Write>(
+    out: &mut W,
     s: &mut [u8; MOST_BYTES],
     t: &mut [u64; MOST_WORDS],
     lent: &mut [usize; 2],
     text: &[u8],
-) {
+) -> io::Result<()> {
     let mut at = 0;
     while at < text.len() {
         let end = line_end(text, at);
-        turn(s, t, lent, &text[at..end]);
+        turn(out, s, t, lent, &text[at..end])?;
         at = after_line(text, at, end);
     }
+    Ok(())
 }
 
 // A text is played; at first nothing is lent.
-pub fn play(text: &[u8]) {
+pub fn play<W: Write>(out: &mut W, text: &[u8]) -> io::Result<()> {
     let mut s = [0u8; MOST_BYTES];
     let mut t = [0u64; MOST_WORDS];
     let mut lent = [0usize; 2];
-    play_lines(&mut s, &mut t, &mut lent, text);
+    play_lines(out, &mut s, &mut t, &mut lent, text)
 }

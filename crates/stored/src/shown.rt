@@ -1,118 +1,118 @@
 // An answer in a line, and bytes and words in a line.
-use libc::STDOUT_FILENO;
 use settings::{Fault, Keeping, Reading, Settings, Writing};
+use std::io;
+use std::io::Write;
 
-fn text(s: &[u8]) {
-    io::write_all(STDOUT_FILENO, s);
+fn text<W: Write>(out: &mut W, s: &[u8]) -> io::Result<()> {
+    out.write_all(s)
 }
 
-fn number(name: &[u8], n: u64) {
-    text(name);
-    io::print_decimal(STDOUT_FILENO, n);
+fn number<W: Write>(out: &mut W, name: &[u8], n: u64) -> io::Result<()> {
+    text(out, name)?;
+    write!(out, "{n}")
 }
 
 // A row that says nothing known.
-pub fn no_such_row() {
-    text(b"no such row\n");
+pub fn no_such_row<W: Write>(out: &mut W) -> io::Result<()> {
+    text(out, b"no such row\n")
 }
 
 // A coordinate, from its stored form, which is 2^31 more.
-fn coordinate(x: i32) {
+fn coordinate<W: Write>(out: &mut W, x: i32) -> io::Result<()> {
     let zero = component::bias(0);
     let n = component::bias(x);
     if n < zero {
-        number(b" -", zero - n);
-        return;
+        return number(out, b" -", zero - n);
     }
-    number(b" ", n - zero);
+    number(out, b" ", n - zero)
 }
 
-fn fault(f: Fault) {
+fn fault<W: Write>(out: &mut W, f: Fault) -> io::Result<()> {
     match f {
-        Fault::NewerRecord => text(b"newer record"),
-        Fault::BadMark => text(b"bad mark"),
-        Fault::CutEnd => text(b"cut end"),
-        Fault::BadEdge => text(b"bad edge"),
-        Fault::BadKind => text(b"bad kind"),
-        Fault::BadOrigin => text(b"bad origin"),
+        Fault::NewerRecord => text(out, b"newer record"),
+        Fault::BadMark => text(out, b"bad mark"),
+        Fault::CutEnd => text(out, b"cut end"),
+        Fault::BadEdge => text(out, b"bad edge"),
+        Fault::BadKind => text(out, b"bad kind"),
+        Fault::BadOrigin => text(out, b"bad origin"),
     }
 }
 
-fn settings(s: Settings) {
-    number(b"edge ", s.edge as u64);
-    number(b" kind ", s.kind as u64);
-    text(b" origin");
-    coordinate(s.x);
-    coordinate(s.y);
-    coordinate(s.z);
+fn settings<W: Write>(out: &mut W, s: Settings) -> io::Result<()> {
+    number(out, b"edge ", s.edge as u64)?;
+    number(out, b" kind ", s.kind as u64)?;
+    text(out, b" origin")?;
+    coordinate(out, s.x)?;
+    coordinate(out, s.y)?;
+    coordinate(out, s.z)
 }
 
-fn faulty(f: Fault, at: usize) {
-    fault(f);
-    number(b" at ", at as u64);
+fn faulty<W: Write>(out: &mut W, f: Fault, at: usize) -> io::Result<()> {
+    fault(out, f)?;
+    number(out, b" at ", at as u64)
 }
 
-fn reading(r: Reading) {
+fn reading<W: Write>(out: &mut W, r: Reading) -> io::Result<()> {
     match r {
-        Reading::Found(s) => settings(s),
-        Reading::NotFound => text(b"not found"),
-        Reading::Overlong => text(b"overlong"),
-        Reading::Faulty(f, at) => faulty(f, at),
+        Reading::Found(s) => settings(out, s),
+        Reading::NotFound => text(out, b"not found"),
+        Reading::Overlong => text(out, b"overlong"),
+        Reading::Faulty(f, at) => faulty(out, f, at),
     }
 }
 
 // What both readers say.
-pub fn readings(old: Reading, new: Reading) {
-    text(b"read: ");
-    reading(old);
-    text(b"; ");
-    reading(new);
-    text(b"\n");
+pub fn readings<W: Write>(out: &mut W, old: Reading, new: Reading) -> io::Result<()> {
+    text(out, b"read: ")?;
+    reading(out, old)?;
+    text(out, b"; ")?;
+    reading(out, new)?;
+    text(out, b"\n")
 }
 
-pub fn writing(w: Writing) {
-    text(b"write: ");
+pub fn writing<W: Write>(out: &mut W, w: Writing) -> io::Result<()> {
+    text(out, b"write: ")?;
     match w {
-        Writing::Length(n) => number(b"length ", n as u64),
-        Writing::Overlong => text(b"overlong"),
-        Writing::Refused(f) => fault(f),
-        Writing::NoRoom(n) => number(b"8, length needed ", n as u64),
+        Writing::Length(n) => number(out, b"length ", n as u64)?,
+        Writing::Overlong => text(out, b"overlong")?,
+        Writing::Refused(f) => fault(out, f)?,
+        Writing::NoRoom(n) => number(out, b"8, length needed ", n as u64)?,
     }
-    text(b"\n");
+    text(out, b"\n")
 }
 
-pub fn keeping(k: Keeping) {
-    text(b"keep: ");
+pub fn keeping<W: Write>(out: &mut W, k: Keeping) -> io::Result<()> {
+    text(out, b"keep: ")?;
     match k {
-        Keeping::Length(n) => number(b"length ", n as u64),
-        Keeping::Overlong => text(b"overlong"),
-        Keeping::Faulty(f, at) => faulty(f, at),
+        Keeping::Length(n) => number(out, b"length ", n as u64)?,
+        Keeping::Overlong => text(out, b"overlong")?,
+        Keeping::Faulty(f, at) => faulty(out, f, at)?,
     }
-    text(b"\n");
+    text(out, b"\n")
 }
 
 // A byte, in hexadecimal.
-fn byte(b: u8) {
-    io::print_hex(STDOUT_FILENO, b as u64, 2);
+fn byte<W: Write>(out: &mut W, b: u8) -> io::Result<()> {
+    write!(out, "{b:02x}")
 }
 
 // The bytes of a slice.
-pub fn bytes(s: &[u8]) {
+pub fn bytes<W: Write>(out: &mut W, s: &[u8]) -> io::Result<()> {
     let mut i = 0;
     while i < s.len() {
-        byte(s[i]);
+        byte(out, s[i])?;
         i += 1;
     }
-    text(b"\n");
+    text(out, b"\n")
 }
 
 // The words of a slice.
-pub fn words(t: &[u64]) {
-    text(b"scratch:");
+pub fn words<W: Write>(out: &mut W, t: &[u64]) -> io::Result<()> {
+    text(out, b"scratch:")?;
     let mut i = 0;
     while i < t.len() {
-        number(b" ", t[i]);
+        number(out, b" ", t[i])?;
         i += 1;
     }
-    text(b"\n");
+    text(out, b"\n")
 }

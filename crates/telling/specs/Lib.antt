@@ -1,4 +1,3 @@
 pub mod Given
 pub mod Words
 pub mod Reports
-pub mod Laws

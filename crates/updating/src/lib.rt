@@ -1,4 +1,6 @@
 // A batch that no early number refuses, played on a consistent state, and the state after it written.
+#![tactic(auto)]
+
 ghost use Rattle.std.specs.Prelude.{◌≡◌, List, ◌++◌, ℕ, ◌+◌, ◌*◌, ◌≤◌, length, take, drop};
 ghost use Rattle.model.specs.Lists.{values};
 ghost use Rattle.model.specs.Cells.{Cell, touch_at};

@@ -1,4 +1,8 @@
 // Plays the script on standard input.
-fn main() {
-    player::play();
+#![tactic(auto)]
+
+use std::io;
+
+fn main(rt: HostRuntime) -> io::Result<()> {
+    player::play(&rt)
 }

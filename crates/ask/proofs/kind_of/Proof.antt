@@ -3,7 +3,7 @@ use native.Mathlib.Omega.{arith}
 use mathlib.Core.Path.{refl}
 use borrow.Author.Rules.{rules}
 use Rattle.layout.specs.State.{kind_of}
-use Rattle.layout.specs.Laws.Cut.{header-fits}
+use Rattle.layout.proofs.Laws.Cut.{header-fits}
 use Rattle.ask.specs.Laws.Lookups.{kind-refused, kind-answered}
 use Rattle.ask.specs.Laws.Ways.{Sure, sure-by}
 use Rattle.ask.proofs.kind_of.Statement.{statement}

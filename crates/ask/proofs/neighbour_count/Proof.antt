@@ -1,7 +1,7 @@
 -- The refusals in order, then the row of the cell.
 use mathlib.Core.Path.{◌∙◌, sym}
 use borrow.Author.Rules.{rules}
-use Rattle.neighbourhood.specs.Laws.Reads.{cells-table}
+use Rattle.neighbourhood.proofs.Laws.Reads.{cells-table}
 use Rattle.lookups.specs.Told.{count_told}
 use Rattle.ask.specs.Laws.Lookups.{count-refused, count-answered}
 use Rattle.ask.specs.Laws.Words.{cells-here}

@@ -23,13 +23,13 @@ use Rattle.layout.specs.Rows.{entity_of, id_of, group_of, cells_image, entities_
 use Rattle.layout.specs.State.{state_len, decode, entity_words, cell_words, occupied_words, emptied_words, id_words, group_words, entity_count, cell_count, occupied_count, emptied_count, id_count, group_count}
 use Rattle.layout.specs.Points.{tidy}
 use Rattle.layout.specs.Facts.{Orderly, BeginsWith}
-use Rattle.layout.specs.Laws.Cut.{entities-long, cells-long, occupied-long, emptied-long, ids-long, groups-long}
-use Rattle.layout.specs.Laws.Lengths.{entities-room, cells-room, net-room, ids-room, groups-room}
-use Rattle.layout.specs.Laws.Tables.{table-by}
-use Rattle.layout.specs.Laws.Fitting.{consistent-fits}
-use Rattle.layout.specs.Laws.Standing.{image-stands}
-use Rattle.layout.specs.Laws.Orderly.{orderly-out}
-use Rattle.layout.specs.Theorems.Canonical.{consistent-image}
+use Rattle.layout.proofs.Laws.Cut.{entities-long, cells-long, occupied-long, emptied-long, ids-long, groups-long}
+use Rattle.layout.proofs.Laws.Lengths.{entities-room, cells-room, net-room, ids-room, groups-room}
+use Rattle.layout.proofs.Laws.Tables.{table-by}
+use Rattle.layout.proofs.Laws.Fitting.{consistent-fits}
+use Rattle.layout.proofs.Laws.Standing.{image-stands}
+use Rattle.layout.proofs.Laws.Orderly.{orderly-out}
+use Rattle.layout.proofs.Theorems.Canonical.{consistent-image}
 use Rattle.neighbourhood.specs.Standing.{Cells}
 use Rattle.ask.specs.Laws.Ways.{Sure}
 

@@ -7,7 +7,7 @@ use Rattle.model.specs.Update.{touch_of}
 use Rattle.model.specs.Consistent.{consistent_by, kind_known}
 use Rattle.model.proofs.Laws.Tests.{neqb→ne, T_true, T_false}
 use Rattle.layout.specs.State.{decode}
-use Rattle.layout.specs.Laws.Orderly.{orderly-out}
+use Rattle.layout.proofs.Laws.Orderly.{orderly-out}
 use Rattle.told.specs.Told.{Beside, values, needed, place, Told, done, refused}
 use Rattle.consistent.specs.Answer.{state_refusal}
 use Rattle.ask.specs.Answers.{kind_of}

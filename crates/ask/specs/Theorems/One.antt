@@ -13,7 +13,7 @@ use Rattle.lookups.specs.Told.{kind_told, where_told, id_told, count_told, group
 use Rattle.lookups.specs.Laws.Back.{kind_back, where_back, id_back, count_back, group_back, kind-back, where-back, id-back, count-back, group-back}
 use Rattle.lists.specs.declared.Listing.{Listing}
 use Rattle.lists.specs.Told.{listing_told}
-use Rattle.lists.specs.Laws.Back.{listing_back, listing-back}
+use Rattle.lists.proofs.Laws.Back.{listing_back, listing-back}
 use Rattle.floods.specs.declared.Depth.{Depth}
 use Rattle.floods.specs.declared.Visited.{Visited}
 use Rattle.floods.specs.declared.Flooding.{Flooding}

@@ -1,8 +1,7 @@
 -- `early_refusal` meets its contract.
 use native.Mathlib.Omega.{arith}
 use mathlib.Core.Path.{◌∙◌}
-use Rattle.batch.specs.Laws.Places.{refused-many, refused-out, refused-late, refused_none}
-use borrow.Author.Rules.{rules}
+use Rattle.batch.proofs.Laws.Places.{refused-many, refused-out, refused-late, refused_none}
 use Rattle.batch.proofs.early_refusal.Goals as goal
 
 pub returns-then-removals-moves-gt-MOST_EVENTS : goal.returns-then-removals-moves-gt-MOST_EVENTS

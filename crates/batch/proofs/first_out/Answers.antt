@@ -1,15 +1,9 @@
 -- `first_out` meets its contract.
-use borrow.Author.Tests.{not-true, not-false}
-use Prim.Native.Nat.{◌≤◌, ◌-◌}
 use native.Mathlib.Omega.{arith}
-use mathlib.Core.Path.{◌≡◌, sym, ap, ◌∙◌}
-use lib.ListN.{drop}
+use mathlib.Core.Path.{sym, ap, ◌∙◌}
 use Rattle.component.specs.Range.{cell_in_range, stored_bad_axis}
 use Rattle.refusal.specs.Forms.{out_of_range}
-use Rattle.batch.specs.Words.{moves_in}
-use Rattle.batch.specs.Places.{first_out}
-use Rattle.batch.specs.Laws.Places.{out_from, out-start, out-here, out-behind, out-end}
-use borrow.Author.Rules.{rules}
+use Rattle.batch.proofs.Laws.Places.{out-here, out-behind, out-end}
 use Rattle.batch.proofs.first_out.Goals as goal
 
 pub returns-then-not-stored_in_range : goal.returns-then-not-stored_in_range

@@ -1,6 +1,5 @@
 -- `too_short` meets its contract.
 use Rattle.batch.specs.Words.{too_short}
-use borrow.Author.Rules.{rules}
 use Rattle.batch.proofs.too_short.Goals as goal
 
 pub returns : goal.returns

@@ -55,11 +55,11 @@ loop-i-preserved c =
     let v = l.invariant.1 in
     let t = c.loop-i-test.true in (
       omega (arith, t),
-      (q.0 ∙ v.0, q.1.0 ∙ v.1, q.1.1.0 ∙ v.2, q.1.1.1.0 ∙ v.3, q.1.1.1.1.0 ∙ v.4),
+      (q.ents ∙ v.0, q.cells ∙ v.1, q.crowd ∙ v.2, q.occ ∙ v.3, q.emp ∙ v.4),
       λ was o r.
           let g = going-at (events-step b a.removals a.moves (omega (arith, s.requires.3)) l.i t) (l.invariant.2 was o r) in
           going_next (event_at b a.removals l.i) (events_left b a.removals a.moves (l.i + 1)) g k.new.ents k.new.cells k.new.crowd k.new.occ k.new.emp k.result (k.ensures g.at g.ready.held)
-          q.0 q.1.0 q.1.1.0 q.1.1.1.0 q.1.1.1.1.0 (sym c.judge-k.ensures ∙ c.if-k-ne0.false),
+          q.ents q.cells q.crowd q.occ q.emp (sym c.judge-k.ensures ∙ c.if-k-ne0.false),
     )
 
 pub returns : goal.returns

@@ -12,7 +12,7 @@ use Rattle.model.specs.Lists.{each, all}
 use Rattle.model.specs.Occupancy.{Event, remove, events}
 use Rattle.layout.specs.Widths.{move_width}
 use Rattle.batch.specs.Words.{move_at, moves_in, batch_of}
-use Rattle.batch.specs.Laws.Words.{moves_left, moves-start, moves-step, moves-end}
+use Rattle.batch.proofs.Laws.Words.{moves_left, moves-start, moves-step, moves-end}
 use Rattle.batch_events.specs.Events.{in_range, to_move, move_place, event_at, EventFits}
 
 module _ (b : List ℕ) (r : ℕ) where

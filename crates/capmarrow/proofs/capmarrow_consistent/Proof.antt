@@ -4,7 +4,7 @@ use borrow.Author.Rules.{rules}
 use Rattle.refusal.specs.declared.Refusal.{Refusal}
 use Rattle.consistent.specs.Answer.{state_refusal}
 use Rattle.telling.specs.Words.{refusal_told, telling}
-use Rattle.telling.specs.Laws.Tells.{tells-short, tells-long}
+use Rattle.telling.proofs.Laws.Tells.{tells-short, tells-long}
 use Rattle.capmarrow.proofs.capmarrow_consistent.Statement.{statement}
 use Rattle.capmarrow.proofs.capmarrow_consistent.Tie as tie
 

@@ -6,7 +6,7 @@ use Rattle.component.specs.declared.CellId.{CellId}
 use Rattle.lists.specs.Told.{listing_told}
 use Rattle.telling.specs.Given.{cell_of}
 use Rattle.telling.specs.Words.{numbered, listing_words}
-use Rattle.telling.specs.Laws.Tells.{cell-given, filled-short, filled-long}
+use Rattle.telling.proofs.Laws.Tells.{cell-given, filled-short, filled-long}
 use Rattle.capmarrow.proofs.capmarrow_cube.Statement.{statement}
 use Rattle.capmarrow.proofs.capmarrow_cube.Tie as tie
 

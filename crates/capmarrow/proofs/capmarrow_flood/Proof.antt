@@ -6,7 +6,7 @@ use Rattle.ask.specs.Answers.{flood_of}
 use Rattle.floods.specs.Told.{flooding_told}
 use Rattle.telling.specs.Given.{cell_of, depth_given}
 use Rattle.telling.specs.Words.{numbered, flooding_words}
-use Rattle.telling.specs.Laws.Tells.{cell-given, filled-short, filled-long}
+use Rattle.telling.proofs.Laws.Tells.{cell-given, filled-short, filled-long}
 use Rattle.capmarrow.proofs.capmarrow_flood.Statement.{statement}
 use Rattle.capmarrow.proofs.capmarrow_flood.Tie as tie
 

@@ -2,7 +2,7 @@
 use borrow.Author.Rules.{rules}
 use Rattle.fresh.specs.Answer.{fresh_of}
 use Rattle.telling.specs.Words.{refusal_told}
-use Rattle.telling.specs.Laws.Tells.{filled-short, filled-long}
+use Rattle.telling.proofs.Laws.Tells.{filled-short, filled-long}
 use Rattle.capmarrow.proofs.capmarrow_fresh.Statement.{statement}
 use Rattle.capmarrow.proofs.capmarrow_fresh.Tie as tie
 

@@ -6,7 +6,7 @@ use Rattle.told.specs.Told.{Told}
 use Rattle.lookups.specs.declared.Shown.{Shown}
 use Rattle.ask.specs.Answers.{group_of}
 use Rattle.telling.specs.Words.{telling, numbered, group_words}
-use Rattle.telling.specs.Laws.Tells.{tells-short, tells-long}
+use Rattle.telling.proofs.Laws.Tells.{tells-short, tells-long}
 use Rattle.capmarrow.proofs.capmarrow_group.Statement.{statement}
 use Rattle.capmarrow.proofs.capmarrow_group.Tie as tie
 

@@ -7,7 +7,7 @@ use Rattle.ask.specs.Answers.{id_of}
 use Rattle.told.specs.Told.{Told}
 use Rattle.telling.specs.Given.{cell_of}
 use Rattle.telling.specs.Words.{telling, numbered, number_words}
-use Rattle.telling.specs.Laws.Tells.{cell-given, tells-short, tells-long}
+use Rattle.telling.proofs.Laws.Tells.{cell-given, tells-short, tells-long}
 use Rattle.capmarrow.proofs.capmarrow_id_of.Statement.{statement}
 use Rattle.capmarrow.proofs.capmarrow_id_of.Tie as tie
 

@@ -3,7 +3,7 @@ use borrow.Author.Rules.{rules}
 use Rattle.ask.specs.Answers.{ids_of}
 use Rattle.lists.specs.Told.{listing_told}
 use Rattle.telling.specs.Words.{numbered, listing_words}
-use Rattle.telling.specs.Laws.Tells.{filled-short, filled-long}
+use Rattle.telling.proofs.Laws.Tells.{filled-short, filled-long}
 use Rattle.capmarrow.proofs.capmarrow_ids.Statement.{statement}
 use Rattle.capmarrow.proofs.capmarrow_ids.Tie as tie
 

@@ -5,7 +5,7 @@ use borrow.Author.Rules.{rules}
 use Rattle.ask.specs.Answers.{kind_of}
 use Rattle.told.specs.Told.{Told}
 use Rattle.telling.specs.Words.{telling, numbered, kind_words}
-use Rattle.telling.specs.Laws.Tells.{tells-short, tells-long}
+use Rattle.telling.proofs.Laws.Tells.{tells-short, tells-long}
 use Rattle.capmarrow.proofs.capmarrow_kind_of.Statement.{statement}
 use Rattle.capmarrow.proofs.capmarrow_kind_of.Tie as tie
 

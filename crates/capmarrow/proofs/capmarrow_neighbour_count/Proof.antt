@@ -7,7 +7,7 @@ use Rattle.ask.specs.Answers.{count_of}
 use Rattle.told.specs.Told.{Told}
 use Rattle.telling.specs.Given.{cell_of}
 use Rattle.telling.specs.Words.{telling, numbered, number_words}
-use Rattle.telling.specs.Laws.Tells.{cell-given, tells-short, tells-long}
+use Rattle.telling.proofs.Laws.Tells.{cell-given, tells-short, tells-long}
 use Rattle.capmarrow.proofs.capmarrow_neighbour_count.Statement.{statement}
 use Rattle.capmarrow.proofs.capmarrow_neighbour_count.Tie as tie
 

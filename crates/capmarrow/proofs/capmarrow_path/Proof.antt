@@ -5,7 +5,7 @@ use Rattle.ask.specs.Answers.{path_of}
 use Rattle.lists.specs.Told.{listing_told}
 use Rattle.telling.specs.Given.{cell_of}
 use Rattle.telling.specs.Words.{numbered, listing_words}
-use Rattle.telling.specs.Laws.Tells.{cell-given, filled-short, filled-long}
+use Rattle.telling.proofs.Laws.Tells.{cell-given, filled-short, filled-long}
 use Rattle.capmarrow.proofs.capmarrow_path.Statement.{statement}
 use Rattle.capmarrow.proofs.capmarrow_path.Tie as tie
 

@@ -2,7 +2,7 @@
 use borrow.Author.Rules.{rules}
 use Rattle.yard.specs.Update.{update_of}
 use Rattle.telling.specs.Words.{refusal_told}
-use Rattle.telling.specs.Laws.Tells.{filled-short, filled-long}
+use Rattle.telling.proofs.Laws.Tells.{filled-short, filled-long}
 use Rattle.capmarrow.proofs.capmarrow_update.Statement.{statement}
 use Rattle.capmarrow.proofs.capmarrow_update.Tie as tie
 

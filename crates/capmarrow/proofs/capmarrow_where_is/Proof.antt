@@ -6,7 +6,7 @@ use borrow.Author.Rules.{rules}
 use Rattle.ask.specs.Answers.{where_of}
 use Rattle.told.specs.Told.{Told}
 use Rattle.telling.specs.Words.{telling, numbered, where_words}
-use Rattle.telling.specs.Laws.Tells.{tells-short, tells-long}
+use Rattle.telling.proofs.Laws.Tells.{tells-short, tells-long}
 use Rattle.capmarrow.proofs.capmarrow_where_is.Statement.{statement}
 use Rattle.capmarrow.proofs.capmarrow_where_is.Tie as tie
 

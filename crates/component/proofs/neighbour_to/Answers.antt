@@ -1,9 +1,9 @@
 -- `component::neighbour_to` meets its contract: it counts from the block's low corner, so that no sum leaves the block.
-use Rattle.std.proofs.Common.{◌/◌, ◌≤◌, ap, ◌∙◌, mod-lt, arith, rules}
-use Rattle.component.specs.Around.{side, place}
+use Rattle.std.proofs.Common.{◌≤◌, ap, ◌∙◌, arith}
+use Rattle.component.specs.Around.{place}
 use Rattle.component.specs.Adjacent.{Room}
 use Rattle.component.specs.Laws.Adjacent.{room-axes, room-above}
-use Rattle.component.proofs.Block.{cube, row, layer, top_digit, from-corner}
+use Rattle.component.proofs.Block.{top_digit, from-corner}
 use Rattle.component.proofs.neighbour_to.Goals as goal
 use Rattle.component.proofs.neighbour_to.Tie as tie
 use Rattle.component.proofs.neighbour_to.Lts as lts

@@ -1,5 +1,5 @@
 -- `component::step` meets its contract: each arm's test is the test that `step_n` picks by.
-use Rattle.std.proofs.Common.{arith, rules, le-ltb, lt-ltb}
+use Rattle.std.proofs.Common.{arith, le-ltb, lt-ltb}
 use Rattle.component.specs.Around.{step_n}
 use Rattle.component.proofs.step.Goals as goal
 

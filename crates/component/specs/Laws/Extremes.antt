@@ -1,7 +1,7 @@
 -- The smaller and the larger of two stored cells are the stored forms of the smaller and the larger of two coordinates.
-use Rattle.std.specs.Prelude.{◌≡◌, ℕ, ◌<◌, ◌≤◌, min, max, Bool, true, false, cond, ℤ, nat_lt, refl}
-use Rattle.std.proofs.Common.{arith, sym, ap, ◌∙◌, ltb-true, ltb-false}
-use Rattle.std.specs.Int.Signed.{lt_z, mag}
+use Rattle.std.specs.Prelude.{◌≡◌, ◌<◌, min, max, Bool, true, false, cond, ℤ, nat_lt, refl}
+use Rattle.std.proofs.Common.{arith, ap, ◌∙◌, ltb-true, ltb-false}
+use Rattle.std.specs.Int.Signed.{mag}
 use Rattle.component.specs.Coord.{min_z, max_z, by_axis}
 use Rattle.component.specs.Stored.{biased, stored_by_axis, stored, Holds}
 use Rattle.component.specs.Laws.Stored.{signed-order}

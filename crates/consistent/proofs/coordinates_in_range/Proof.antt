@@ -4,7 +4,7 @@ use mathlib.Core.Path.{ap, ◌∙◌}
 use lib.ListN.{length}
 use Rattle.points_check.specs.Points.{coordinates_right}
 use Rattle.layout.specs.State.{net_len}
-use Rattle.layout.specs.Laws.Cut.{occupied-long, emptied-long}
+use Rattle.layout.proofs.Laws.Cut.{occupied-long, emptied-long}
 use Rattle.consistent.specs.Laws.Points.{asks-cells, point7-is}
 use borrow.Author.Rules.{rules}
 use Rattle.consistent.proofs.coordinates_in_range.Statement.{statement}

@@ -9,7 +9,7 @@ use Rattle.table.specs.Laws.Images.{table-facts}
 use Rattle.layout.specs.Widths.{id_width}
 use Rattle.layout.specs.Rows.{ids_in}
 use Rattle.layout.specs.State.{id_words, id_count, next_id}
-use Rattle.layout.specs.Laws.Cut.{header-fits}
+use Rattle.layout.proofs.Laws.Cut.{header-fits}
 use Rattle.consistent.specs.Laws.Points.{tables, point6-is}
 use borrow.Author.Rules.{rules}
 use Rattle.consistent.proofs.ids_below_next.Statement.{statement}

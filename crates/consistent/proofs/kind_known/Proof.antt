@@ -1,7 +1,7 @@
 -- Point 9, over the word of the header.
 use native.Mathlib.Omega.{arith}
 use mathlib.Core.Path.{◌∙◌}
-use Rattle.layout.specs.Laws.Cut.{header-fits}
+use Rattle.layout.proofs.Laws.Cut.{header-fits}
 use Rattle.consistent.specs.Laws.Points.{point9-is}
 use borrow.Author.Rules.{rules}
 use Rattle.consistent.proofs.kind_known.Statement.{statement}

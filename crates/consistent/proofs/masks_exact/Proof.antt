@@ -6,7 +6,7 @@ use Rattle.table.specs.Rows.{table4, is_table4}
 use Rattle.layout.specs.Widths.{cell_width}
 use Rattle.layout.specs.Rows.{cells_in}
 use Rattle.layout.specs.State.{kind_of}
-use Rattle.layout.specs.Laws.Cut.{header-fits}
+use Rattle.layout.proofs.Laws.Cut.{header-fits}
 use Rattle.masks_check.specs.Rows.{row_right}
 use Rattle.consistent.specs.Laws.Points.{tables, point3-is}
 use borrow.Author.Rules.{rules}

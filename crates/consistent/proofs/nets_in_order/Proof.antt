@@ -5,7 +5,7 @@ use Rattle.table.specs.Rows.{is_table4}
 use Rattle.layout.specs.Widths.{cell_width}
 use Rattle.points_check.specs.Points.{nets_right}
 use Rattle.layout.specs.State.{net_len}
-use Rattle.layout.specs.Laws.Cut.{occupied-long, emptied-long}
+use Rattle.layout.proofs.Laws.Cut.{occupied-long, emptied-long}
 use Rattle.consistent.specs.Laws.Points.{tables, point8-is}
 use borrow.Author.Rules.{rules}
 use Rattle.consistent.proofs.nets_in_order.Statement.{statement}

@@ -9,7 +9,7 @@ use Rattle.model.specs.Cells.{same}
 use Rattle.table.specs.Rows.{table4, is_table4}
 use Rattle.layout.specs.Widths.{entity_width, id_width}
 use Rattle.layout.specs.Rows.{entities_in}
-use Rattle.layout.specs.Laws.Cut.{groups-long}
+use Rattle.layout.proofs.Laws.Cut.{groups-long}
 use Rattle.points_check.specs.Points.{records_right}
 use Rattle.consistent.specs.Laws.Points.{tables, all-with-id, entities-there, point5-is}
 use borrow.Author.Rules.{rules}

@@ -1,5 +1,5 @@
 -- How far a number of units is from the nearest float, and that rounding does not pass a whole number of metres.
-use Rattle.std.specs.Prelude.{◌≡◌, Bool, true, false, not, cond, T, eqb, ltb, leb, ℤ, pos, neg_ℤ, nat_abs, ◌-ℤ◌}
+use Rattle.std.specs.Prelude.{◌≡◌, Bool, true, false, not, cond, T, eqb, ltb, ℤ, pos, neg_ℤ, nat_abs, ◌-ℤ◌}
 use Rattle.std.proofs.Common.{sym, ap, ◌∙◌, subst, mul_comm, mul_assoc, mul_right_comm, add-mul, suc-mul, mul-pos, mul-div_cancel, mul-le-mul_right, le_trans, le_of_eq, le_of_lt, lt_of_lt_of_le, lt_of_le_of_lt, le_of_mul-le-mul_right, lt_of_mul-lt-mul_right, div-add-mod', mod-lt, arith, leb→le, eqb→eq, lit≤, pow-add, pow_pos, pow_mono}
 use Prim.Native.Nat.{ℕ, zero, suc, ◌+◌, ◌-◌, ◌*◌, ◌/◌, ◌%◌, ◌^◌, ◌≤◌, ◌<◌, compare, Ordering}
 use Rattle.std.proofs.Math.Dec.{is_le, compare_is_eq, nleb→lt, eqb_refl}

@@ -1,5 +1,5 @@
 -- The quotient rounded down, over the whole numbers: it holds the number, it alone does, and what is left is below the divisor.
-use Rattle.std.specs.Prelude.{◌≡◌, refl, ℕ, zero, suc, ◌+◌, ◌-◌, ◌*◌, ◌/◌, ◌≤◌, ◌<◌, Bool, true, false, cond, T, ltb, leb, ℤ, pos, negsuc, neg_ℤ, ◌+ℤ◌, ◌-ℤ◌, ◌*ℤ◌, ◌≤ℤ◌, ◌<ℤ◌}
+use Rattle.std.specs.Prelude.{◌≡◌, refl, ℕ, zero, suc, ◌+◌, ◌-◌, ◌*◌, ◌/◌, ◌≤◌, ◌<◌, Bool, true, false, cond, T, ltb, ℤ, pos, negsuc, neg_ℤ, ◌+ℤ◌, ◌-ℤ◌, ◌*ℤ◌, ◌≤ℤ◌, ◌<ℤ◌}
 use Rattle.std.proofs.Common.{sym, ap, ◌∙◌, subst, suc-mul, zero-mul, div-mul-le_self, add-one, arith, ltb→lt, lt→ltb, leb→le, le→leb}
 use Rattle.std.proofs.Math.Nat.{lt-div-mul-add, div-eq_of_lt-le}
 use Rattle.std.proofs.Math.IntN.{neg_ℤ-neg_ℤ, suc_ℤ, +ℤ_one}

@@ -1,5 +1,5 @@
 -- What the tests of floats in the code say.
-use Rattle.std.specs.Prelude.{◌≡◌, ℕ, zero, suc, ◌+◌, ◌-◌, ◌*◌, ◌<◌, Bool, true, false, ◌&&◌, T, eqb, ℤ, pos, ◌+ℤ◌, Float}
+use Rattle.std.specs.Prelude.{◌≡◌, ℕ, zero, suc, ◌*◌, ◌<◌, Bool, true, false, ◌&&◌, T, eqb, ℤ, pos, Float}
 use Rattle.std.proofs.Math.Path.{refl}
 use Rattle.std.proofs.Common.{sym, ap, ◌∙◌, subst, zero-mul, zero-lt-suc, mul-one, mul-pos, lt_irrefl, true≢false, eqb→eq}
 use Rattle.std.proofs.lemmas.Bool.{false≢true}

@@ -1,5 +1,5 @@
 -- The sign and the size of a float, and whole numbers of metres as floats.
-use Rattle.std.specs.Prelude.{◌≡◌, refl, ℕ, suc, ◌*◌, ◌/◌, ◌^◌, ◌≤◌, ◌<◌, Bool, true, false, T, ltb, ℤ, pos, negsuc, neg_ℤ, nat_abs, ◌*ℤ◌, Float}
+use Rattle.std.specs.Prelude.{◌≡◌, refl, ℕ, suc, ◌*◌, ◌/◌, ◌^◌, ◌≤◌, ◌<◌, Bool, true, false, T, ℤ, pos, negsuc, neg_ℤ, nat_abs, ◌*ℤ◌, Float}
 use Rattle.std.proofs.Common.{sym, ◌∙◌, zero-lt-suc, div-one, arith, true≢false, ltb→lt, le→leb}
 use Rattle.std.proofs.Math.Path.{ap}
 use Rattle.std.specs.Int.Signed.{lt_z}

@@ -7,10 +7,10 @@ use Rattle.model.specs.Lists.{keys}
 use Rattle.table.specs.Rows.{place_of, table4}
 use Rattle.table.specs.declared.Place.TheVariants.{Found}
 use Rattle.layout.specs.Rows.{cells_in}
-use Rattle.neighbourhood.specs.Laws.Reads.{cells-table}
+use Rattle.neighbourhood.proofs.Laws.Reads.{cells-table}
 use Rattle.floods.specs.Laws.Floods.{flooded-none}
 use Rattle.layout.specs.Widths.{cell_width}
-use Rattle.lists.specs.Laws.Occupied.{found-has, found-there, found-cell, missing_has}
+use Rattle.lists.proofs.Laws.Occupied.{found-has, found-there, found-cell, missing_has}
 use Rattle.lists.specs.Parts.{having}
 use Rattle.floods.specs.Told.{flooded, depth_of}
 use Rattle.floods.proofs.give_flood.Statement.{statement}

@@ -9,8 +9,8 @@ use Rattle.model.specs.Lists.{keep, keys}
 use Rattle.model.specs.Flood.{within_depth, flood_cells}
 use Rattle.layout.specs.Rows.{cells_in}
 use Rattle.neighbourhood.specs.Rows.{row_cell}
-use Rattle.neighbourhood.specs.Laws.Unmarked.{open-all}
-use Rattle.neighbourhood.specs.Laws.Outside.{outside-open}
+use Rattle.neighbourhood.proofs.Laws.Unmarked.{open-all}
+use Rattle.neighbourhood.proofs.Laws.Outside.{outside-open}
 use Rattle.floods.specs.Told.{depth_of}
 use Rattle.floods.specs.declared.Depth.{Depth}
 use Rattle.floods.proofs.leave_out.Statement.{statement}

@@ -19,9 +19,9 @@ use Rattle.layout.specs.Rows.{cells_in}
 use Rattle.neighbourhood.specs.Rows.{row_cell}
 use Rattle.neighbourhood.specs.Standing.{Cells, open_cells, Floodable, Flooded}
 use Rattle.neighbourhood.specs.Answers.{answer_words, filled, Queued, cells_of_rows}
-use Rattle.neighbourhood.specs.Laws.Filling.{words_long, rows_long, rows-front}
-use Rattle.neighbourhood.specs.Laws.Reads.{row-once}
-use Rattle.neighbourhood.specs.Laws.Unmarked.{open-once, open_in, open-out}
+use Rattle.neighbourhood.proofs.Laws.Filling.{words_long, rows_long, rows-front}
+use Rattle.neighbourhood.proofs.Laws.Reads.{row-once}
+use Rattle.neighbourhood.proofs.Laws.Unmarked.{open-once, open_in, open-out}
 use Rattle.told.specs.Told.{done, too_long}
 use Rattle.told.specs.Laws.Fitting.{fitted-long, fitted-fits, fitted_none}
 use Rattle.lists.specs.Parts.{having}

@@ -15,8 +15,8 @@ use Rattle.table.specs.Moves.{over}
 use Rattle.layout.specs.Widths.{header_len, next_id_at, kind_at, spare}
 use Rattle.layout.specs.State.{entities_len, cells_len, net_len, ids_len, groups_len, state_len, encode}
 use Rattle.layout.specs.Points.{long_enough}
-use Rattle.layout.specs.Laws.Images.{entities-laws, cells-laws, net-laws, ids-laws, groups-laws}
-use Rattle.layout.specs.Laws.Lengths.{header-end, entities-end, cells-end, occupied-end, emptied-end, ids-end, groups-end}
+use Rattle.layout.proofs.Laws.Images.{entities-laws, cells-laws, net-laws, ids-laws, groups-laws}
+use Rattle.layout.proofs.Laws.Lengths.{header-end, entities-end, cells-end, occupied-end, emptied-end, ids-end, groups-end}
 use Rattle.fresh.specs.Answer.{fresh_of}
 
 -- The header of a fresh state.

@@ -1,7 +1,6 @@
 -- The step on each axis is a digit of the offset's place.
 use Prim.Native.Nat.{ℕ, ◌+◌}
-use mathlib.Core.Path.{◌≡◌, sym, ap, ◌∙◌}
-use borrow.Author.Rules.{rules}
+use mathlib.Core.Path.{sym, ap, ◌∙◌}
 use Rattle.model.specs.Cells.{kind_allows, offsets_of}
 use Rattle.model.proofs.Laws.Slots.{offset_of, offset-is}
 use Rattle.kinds.proofs.has_offset.Goals as goal

@@ -1,8 +1,7 @@
 -- The touching of crate `component`, on as many axes as the kind allows.
 use Prim.Native.Nat.{◌+◌}
-use mathlib.Core.Path.{◌≡◌, sym, ◌∙◌}
+use mathlib.Core.Path.{sym, ◌∙◌}
 use mathlib.Core.Bool.{◌&&◌}
-use borrow.Author.Rules.{rules}
 use Rattle.component.specs.Touch.{touches}
 use Rattle.model.specs.Cells.{kind_allows}
 use Rattle.model.proofs.Laws.Kinds.{touch-kind}

@@ -1,9 +1,8 @@
 -- The part of the words of a state.
 use native.Mathlib.Omega.{arith}
-use borrow.Author.Rules.{rules}
 use Rattle.layout.specs.State.{cells_from, cells_len, occupied_from, state_len}
-use Rattle.layout.specs.Laws.Lengths.{cells-end}
-use Rattle.layout.specs.Laws.Cut.{whole, part_of}
+use Rattle.layout.proofs.Laws.Lengths.{cells-end}
+use Rattle.layout.proofs.Laws.Cut.{whole, part_of}
 use Rattle.layout.proofs.cell_words.Goals as goal
 
 pub slice_bounds-result-end : goal.slice_bounds-result-end

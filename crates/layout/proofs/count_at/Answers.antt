@@ -1,8 +1,6 @@
 -- The header is within the words of a state.
 use native.Mathlib.Omega.{arith}
-use mathlib.Core.Path.{refl}
-use borrow.Author.Rules.{rules}
-use Rattle.layout.specs.Laws.Cut.{header-fits}
+use Rattle.layout.proofs.Laws.Cut.{header-fits}
 use Rattle.layout.proofs.count_at.Goals as goal
 
 pub bounds-state-k : goal.bounds-state-k

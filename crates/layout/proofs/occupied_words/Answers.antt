@@ -1,9 +1,8 @@
 -- The part of the words of a state.
 use native.Mathlib.Omega.{arith}
-use borrow.Author.Rules.{rules}
 use Rattle.layout.specs.State.{occupied_from, net_len, emptied_from, state_len}
-use Rattle.layout.specs.Laws.Lengths.{occupied-end}
-use Rattle.layout.specs.Laws.Cut.{whole, part_of}
+use Rattle.layout.proofs.Laws.Lengths.{occupied-end}
+use Rattle.layout.proofs.Laws.Cut.{whole, part_of}
 use Rattle.layout.proofs.occupied_words.Goals as goal
 
 pub slice_bounds-result-end : goal.slice_bounds-result-end

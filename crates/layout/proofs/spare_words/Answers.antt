@@ -1,11 +1,10 @@
 -- The part of the words of a state.
 use native.Mathlib.Omega.{arith}
 use Prim.Native.Nat.{◌-◌}
-use borrow.Author.Rules.{rules}
 use Rattle.layout.specs.Widths.{header_len, spare}
 use Rattle.layout.specs.State.{entities_from, state_len}
-use Rattle.layout.specs.Laws.Lengths.{header-end}
-use Rattle.layout.specs.Laws.Cut.{whole, part_of}
+use Rattle.layout.proofs.Laws.Lengths.{header-end}
+use Rattle.layout.proofs.Laws.Cut.{whole, part_of}
 use Rattle.layout.proofs.spare_words.Goals as goal
 
 pub slice_bounds-result-end : goal.slice_bounds-result-end

@@ -8,7 +8,7 @@ use Rattle.model.specs.Cells.{same}
 use Rattle.table.specs.Moves.{over}
 use Rattle.layout.specs.Rows.{entities_in}
 use Rattle.layout.specs.Widths.{entity_width}
-use Rattle.lists.specs.Laws.Scans.{over_none, entity-step, entity-past, entity-end}
+use Rattle.lists.proofs.Laws.Scans.{over_none, entity-step, entity-past, entity-end}
 use Rattle.lists.specs.Parts.{standing_in}
 use Rattle.lists.proofs.entities_into.Statement.{statement}
 use Rattle.lists.proofs.entities_into.Tie as tie

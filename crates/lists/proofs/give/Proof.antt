@@ -4,7 +4,7 @@ use mathlib.Core.Bool.{true, false}
 use mathlib.Core.Path.{sym}
 use lib.Seq.{length-take-le}
 use borrow.Author.Rules.{rules}
-use Rattle.lists.specs.Laws.Gives.{give-long, give-fits}
+use Rattle.lists.proofs.Laws.Gives.{give-long, give-fits}
 use Rattle.lists.proofs.give.Statement.{statement}
 use Rattle.lists.proofs.give.Tie as tie
 

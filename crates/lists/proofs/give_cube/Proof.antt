@@ -15,12 +15,12 @@ use Rattle.model.specs.Lists.{keys, keep, gather}
 use Rattle.table.specs.Rows.{table4, is_table4}
 use Rattle.model.specs.Update.{most_cells}
 use Rattle.layout.specs.Rows.{cells_in}
-use Rattle.neighbourhood.specs.Laws.Reads.{cells-table, cells-keys}
+use Rattle.neighbourhood.proofs.Laws.Reads.{cells-table, cells-keys}
 use Rattle.neighbourhood.specs.Answers.{answer_words}
 use Rattle.layout.specs.Widths.{answer_width, cell_width}
-use Rattle.lists.specs.Laws.Cubes.{cube-words, first-words}
-use Rattle.lists.specs.Laws.Occupied.{found-has, missing_has}
-use Rattle.lists.specs.Laws.Gives.{cells-listed}
+use Rattle.lists.proofs.Laws.Cubes.{cube-words, first-words}
+use Rattle.lists.proofs.Laws.Occupied.{found-has, missing_has}
+use Rattle.lists.proofs.Laws.Gives.{cells-listed}
 use Rattle.neighbourhood.specs.Beside.{beside}
 use Rattle.lists.specs.Parts.{having}
 use Rattle.lists.proofs.give_cube.Statement.{statement}

@@ -8,8 +8,8 @@ use lib.Dec.{eqb}
 use borrow.Author.Rules.{rules}
 use Rattle.model.specs.Update.{most_entities}
 use Rattle.layout.specs.Rows.{entities_in}
-use Rattle.lists.specs.Laws.Gives.{numbers-listed}
-use Rattle.lists.specs.Laws.Scans.{over-take, standing-few}
+use Rattle.lists.proofs.Laws.Gives.{numbers-listed}
+use Rattle.lists.proofs.Laws.Scans.{over-take, standing-few}
 use Rattle.lists.specs.Parts.{standing_in, any_of}
 use Rattle.lists.proofs.give_entities.Statement.{statement}
 use Rattle.lists.proofs.give_entities.Tie as tie

@@ -11,8 +11,8 @@ use Rattle.table.specs.Laws.Words.{keys_length}
 use Rattle.model.specs.Update.{most_cells}
 use Rattle.layout.specs.Rows.{groups_in}
 use Rattle.layout.specs.Widths.{group_width}
-use Rattle.lists.specs.Laws.Scans.{over-take}
-use Rattle.lists.specs.Laws.Gives.{numbers-listed, group-keys}
+use Rattle.lists.proofs.Laws.Scans.{over-take}
+use Rattle.lists.proofs.Laws.Gives.{numbers-listed, group-keys}
 use Rattle.lists.specs.Told.{there}
 use Rattle.lists.proofs.give_ids.Statement.{statement}
 use Rattle.lists.proofs.give_ids.Tie as tie

@@ -12,12 +12,12 @@ use Rattle.table.specs.Rows.{place_of, table4}
 use Rattle.table.specs.declared.Place.TheVariants.{Found}
 use Rattle.model.specs.Update.{most_cells}
 use Rattle.layout.specs.Rows.{cells_in}
-use Rattle.neighbourhood.specs.Laws.Reads.{cells-table}
+use Rattle.neighbourhood.proofs.Laws.Reads.{cells-table}
 use Rattle.neighbourhood.specs.Standing.{Cells}
 use Rattle.neighbourhood.specs.Answers.{Nearby}
 use Rattle.layout.specs.Widths.{answer_width, cell_width}
-use Rattle.lists.specs.Laws.Occupied.{found-has, missing_has, nearby-asked, nearby-few, nearby-words, missing-words}
-use Rattle.lists.specs.Laws.Gives.{cells-listed}
+use Rattle.lists.proofs.Laws.Occupied.{found-has, missing_has, nearby-asked, nearby-few, nearby-words, missing-words}
+use Rattle.lists.proofs.Laws.Gives.{cells-listed}
 use Rattle.lists.specs.Parts.{having}
 use Rattle.lists.proofs.give_nearby.Statement.{statement}
 use Rattle.lists.proofs.give_nearby.Tie as tie

@@ -10,9 +10,9 @@ use Rattle.model.specs.Update.{most_cells}
 use Rattle.layout.specs.Rows.{net_in}
 use Rattle.neighbourhood.specs.Answers.{answer_words}
 use Rattle.layout.specs.Widths.{answer_width}
-use Rattle.lists.specs.Laws.Scans.{net-long}
-use Rattle.lists.specs.Laws.Occupied.{filled-take}
-use Rattle.lists.specs.Laws.Gives.{cells-listed}
+use Rattle.lists.proofs.Laws.Scans.{net-long}
+use Rattle.lists.proofs.Laws.Occupied.{filled-take}
+use Rattle.lists.proofs.Laws.Gives.{cells-listed}
 use Rattle.lists.specs.Told.{there}
 use Rattle.lists.proofs.give_net.Statement.{statement}
 use Rattle.lists.proofs.give_net.Tie as tie

@@ -8,11 +8,11 @@ use Rattle.model.specs.Cells.{touch_at}
 use Rattle.model.specs.Shortest.{shown_path}
 use Rattle.layout.specs.Rows.{cells_in}
 use Rattle.neighbourhood.specs.Rows.{row_cell}
-use Rattle.neighbourhood.specs.Laws.Reads.{cells-table}
+use Rattle.neighbourhood.proofs.Laws.Reads.{cells-table}
 use Rattle.refusal.specs.declared.Refusal.{Refusal}
 use Rattle.lists.specs.declared.Listing.{Listing}
 use Rattle.lists.specs.Told.{listing_told, path_from}
-use Rattle.lists.specs.Laws.Paths.{path-missing, both-rows}
+use Rattle.lists.proofs.Laws.Paths.{path-missing, both-rows}
 use Rattle.lists.proofs.give_path.Statement.{statement}
 use Rattle.lists.proofs.give_path.Tie as tie
 

@@ -8,7 +8,7 @@ use Rattle.model.specs.Lists.{keys}
 use Rattle.table.specs.Moves.{over}
 use Rattle.table.specs.Rows.{table1}
 use Rattle.layout.specs.Widths.{group_width}
-use Rattle.lists.specs.Laws.Scans.{over_none, key_step, key-end}
+use Rattle.lists.proofs.Laws.Scans.{over_none, key_step, key-end}
 use Rattle.lists.proofs.keys_into.Statement.{statement}
 use Rattle.lists.proofs.keys_into.Tie as tie
 

@@ -6,10 +6,10 @@ use lib.ListN.{length, take}
 use borrow.Author.Rules.{rules}
 use Rattle.layout.specs.Rows.{net_in}
 use Rattle.neighbourhood.specs.Answers.{filled}
-use Rattle.neighbourhood.specs.Laws.Filling.{filled_none}
-use Rattle.neighbourhood.specs.Laws.Walking.{over-length}
+use Rattle.neighbourhood.proofs.Laws.Filling.{filled_none}
+use Rattle.neighbourhood.proofs.Laws.Walking.{over-length}
 use Rattle.layout.specs.Widths.{answer_width}
-use Rattle.lists.specs.Laws.Scans.{net-step, net-end}
+use Rattle.lists.proofs.Laws.Scans.{net-step, net-end}
 use Rattle.lists.proofs.net_into.Statement.{statement}
 use Rattle.lists.proofs.net_into.Tie as tie
 

@@ -12,7 +12,7 @@ use Rattle.layout.specs.Widths.{answer_width}
 use Rattle.refusal.specs.declared.Refusal.{Refusal}
 use Rattle.lists.specs.declared.Listing.{Listing}
 use Rattle.lists.specs.Told.{listing_told}
-use Rattle.lists.specs.Laws.Paths.{path-no, path-yes}
+use Rattle.lists.proofs.Laws.Paths.{path-no, path-yes}
 use Rattle.lists.proofs.path_between.Statement.{statement}
 use Rattle.lists.proofs.path_between.Tie as tie
 

@@ -1,7 +1,6 @@
 -- One store.
 use mathlib.Core.Path.{refl}
 use Rattle.little_endian.specs.Laws.Putting.{one}
-use borrow.Author.Rules.{rules}
 use Rattle.little_endian.proofs.put_byte.Goals as goal
 
 pub returns : goal.returns

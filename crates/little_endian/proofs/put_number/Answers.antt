@@ -2,13 +2,12 @@
 use Rattle.little_endian.specs.Laws.Putting.{all}
 use Rattle.little_endian.specs.Laws.Numbers.{bytes-length, byte_next}
 use Rattle.little_endian.specs.Bytes.{bytes}
-use lib.Seq.{paste, paste-zero, paste-suc}
-use lib.ListN.{length, set, drop, length-set}
+use lib.Seq.{paste-suc}
+use lib.ListN.{set, length-set}
 use native.Mathlib.Omega.{arith}
 use native.Mathlib.Numerals.{add-one}
-use mathlib.Core.Path.{◌≡◌, refl, sym, ap, ◌∙◌}
-use Prim.Native.Nat.{ℕ, ◌+◌, ◌-◌, ◌≤◌, ◌<◌}
-use borrow.Author.Rules.{rules}
+use mathlib.Core.Path.{◌≡◌, sym, ◌∙◌}
+use Prim.Native.Nat.{◌+◌, ◌<◌}
 use Rattle.little_endian.proofs.put_number.Goals as goal
 
 pub loop-i-preserved : goal.loop-i-preserved

@@ -1,14 +1,9 @@
 -- Each turn puts the lowest byte of what is left.
-use Rattle.little_endian.specs.Laws.Putting.{all}
-use Rattle.little_endian.specs.Laws.Numbers.{bytes-length, byte_next}
 use Rattle.little_endian.specs.Bytes.{bytes}
-use lib.Seq.{paste, paste-zero, paste-suc}
-use lib.ListN.{length, set, drop, length-set}
-use native.Mathlib.Omega.{arith}
-use native.Mathlib.Numerals.{add-one}
-use mathlib.Core.Path.{◌≡◌, refl, sym, ap, ◌∙◌}
-use Prim.Native.Nat.{ℕ, ◌+◌, ◌-◌, ◌≤◌, ◌<◌}
-use borrow.Author.Rules.{rules}
+use lib.Seq.{paste}
+use lib.ListN.{length, drop}
+use mathlib.Core.Path.{◌≡◌}
+use Prim.Native.Nat.{◌+◌, ◌-◌, ◌≤◌}
 use Rattle.little_endian.proofs.put_number.Given as goal
 
 abbrev pub invariant-loop-i : goal.invariant-loop-i

@@ -2,7 +2,6 @@
 use mathlib.Core.Path.{sym}
 use native.Mathlib.Omega.{arith}
 use Rattle.little_endian.specs.Laws.Reading.{four}
-use borrow.Author.Rules.{rules}
 use Rattle.little_endian.proofs.word4.Goals as goal
 
 pub returns : goal.returns

@@ -1,7 +1,6 @@
 -- Two numbers of four bytes.
 use native.Mathlib.Omega.{arith}
 use Rattle.little_endian.specs.Laws.Reading.{eight}
-use borrow.Author.Rules.{rules}
 use Rattle.little_endian.proofs.word8.Goals as goal
 
 pub returns : goal.returns

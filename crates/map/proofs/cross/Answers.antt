@@ -4,7 +4,6 @@ use Rattle.map.proofs.Steps.{cross-leaves, cross-joins}
 use Rattle.table.specs.Laws.Next.{room-space}
 use Rattle.table.specs.Rows.{cell}
 use mathlib.Core.Path.{sym, ◌∙◌}
-use borrow.Author.Rules.{rules}
 use Rattle.map.proofs.cross.Goals as goal
 
 pub returns-then-contains : goal.returns-then-contains

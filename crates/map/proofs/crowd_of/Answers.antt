@@ -9,8 +9,7 @@ use Rattle.model.specs.Lists.{each}
 use lib.ListN.{length}
 use mathlib.Core.Path.{◌≡◌, refl, ◌∙◌, subst}
 use native.Mathlib.Omega.{arith}
-use Prim.Native.Nat.{ℕ, ◌-◌, ◌≤◌}
-use borrow.Author.Rules.{rules}
+use Prim.Native.Nat.{ℕ}
 use Rattle.map.proofs.crowd_of.Goals as goal
 
 pub loop-i-init : goal.loop-i-init

@@ -1,16 +1,13 @@
 -- After i rows the crowd is the tally of the first i entities.
 use Rattle.layout.specs.Widths.{crowd_width}
-use Rattle.map.proofs.Tallying.{count_none, count_room, count_fits, count-more, count-all}
 use Rattle.map.specs.Held.{tally}
 use Rattle.map.specs.Told.{TableIs}
 use Rattle.table.specs.Rows.{cell}
 use Rattle.layout.specs.Rows.{id_row, entities_in}
 use Rattle.model.specs.Lists.{each}
 use lib.ListN.{length}
-use mathlib.Core.Path.{◌≡◌, refl, ◌∙◌, subst}
-use native.Mathlib.Omega.{arith}
-use Prim.Native.Nat.{ℕ, ◌-◌, ◌≤◌}
-use borrow.Author.Rules.{rules}
+use mathlib.Core.Path.{◌≡◌}
+use Prim.Native.Nat.{◌-◌, ◌≤◌}
 use Rattle.map.proofs.crowd_of.Given as goal
 
 abbrev pub invariant-loop-i : goal.invariant-loop-i

@@ -4,7 +4,6 @@ use Rattle.map.proofs.Passing.{crowd-shows, enters-fits, enters-nobody, enters-s
 use Rattle.table.specs.Laws.Next.{room-space}
 use Rattle.table.specs.Rows.{cell}
 use mathlib.Core.Bool.{true, false}
-use mathlib.Core.Path.{refl}
 use native.Mathlib.Omega.{arith}
 use Rattle.map.proofs.enter_cell.Goals as goal
 
@@ -28,13 +27,13 @@ insert_entry-requires c =
 
 pub returns-then-k-eq0-clause-by_index : goal.returns-then-k-eq0-clause-by_index
 returns-then-k-eq0-clause-by_index c =
-    let s = c in let a = s.args in  λ e o h. entered a.cells.now a.crowd.now a.occ.now a.emp.now a.n e a.c o h c.insert_entry.new.cells c.set_count.new.crowd c.insert_entry.new.occ c.insert_entry.new.emp
-          c.set_count.result c.how_many-k.result c.insert_entry.result c.how_many-k.ensures c.set_count.ensures false
-          (enters-nobody a.cells.now a.crowd.now a.occ.now a.emp.now a.n e a.c o h c.how_many-k.result c.how_many-k.ensures c.if-k-eq0.true)
-          (c.insert_entry.ensures.stored o (enters-opens a.cells.now a.crowd.now a.occ.now a.emp.now a.n e a.c o h c.how_many-k.result c.how_many-k.ensures c.if-k-eq0.true))
+    let s = c in let a = s.args in λ e o h. entered a.cells.now a.crowd.now a.occ.now a.emp.now a.n e a.c o h c.insert_entry.new.cells c.set_count.new.crowd c.insert_entry.new.occ c.insert_entry.new.emp
+    c.set_count.result c.how_many-k.result c.insert_entry.result c.how_many-k.ensures c.set_count.ensures false
+    (enters-nobody a.cells.now a.crowd.now a.occ.now a.emp.now a.n e a.c o h c.how_many-k.result c.how_many-k.ensures c.if-k-eq0.true)
+    (c.insert_entry.ensures.stored o (enters-opens a.cells.now a.crowd.now a.occ.now a.emp.now a.n e a.c o h c.how_many-k.result c.how_many-k.ensures c.if-k-eq0.true))
 
 pub returns-clause-by_index : goal.returns-clause-by_index
 returns-clause-by_index c =
-    let s = c in let a = s.args in  λ e o h. entered a.cells.now a.crowd.now a.occ.now a.emp.now a.n e a.c o h a.cells.now c.set_count.new.crowd a.occ.now a.emp.now
-          c.set_count.result c.how_many-k.result a.n c.how_many-k.ensures c.set_count.ensures true
-          (enters-somebody a.cells.now a.crowd.now a.occ.now a.emp.now a.n e a.c o h c.how_many-k.result c.how_many-k.ensures c.if-k-eq0.false) h.peopled.stored
+    let s = c in let a = s.args in λ e o h. entered a.cells.now a.crowd.now a.occ.now a.emp.now a.n e a.c o h a.cells.now c.set_count.new.crowd a.occ.now a.emp.now
+    c.set_count.result c.how_many-k.result a.n c.how_many-k.ensures c.set_count.ensures true
+    (enters-somebody a.cells.now a.crowd.now a.occ.now a.emp.now a.n e a.c o h c.how_many-k.result c.how_many-k.ensures c.if-k-eq0.false) h.peopled.stored

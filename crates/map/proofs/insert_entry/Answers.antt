@@ -3,9 +3,7 @@ use Rattle.layout.specs.Widths.{cell_width}
 use Rattle.map.proofs.Entries.{opens-shown, opened-stored}
 use Rattle.table.specs.Rows.{cell}
 use Rattle.table.specs.Laws.Next.{room-space}
-use mathlib.Core.Path.{refl, ◌∙◌}
 use native.Mathlib.Omega.{arith}
-use borrow.Author.Rules.{rules}
 use Rattle.map.proofs.insert_entry.Goals as goal
 
 pub note-w-requires : goal.note-w-requires
@@ -22,5 +20,5 @@ cross-x-requires c = let s = c in let a = s.args in let x = opens-shown a.cells.
 
 pub returns-clause-stored : goal.returns-clause-stored
 returns-clause-stored c =
-    let s = c in let a = s.args in  λ o h. opened-stored a.cells.now a.occ.now a.emp.now a.n a.c o h c.tell.new.cells c.put4-k.new.s c.cross-x.new.to c.cross-x.new.from _ c.note-w.result _
-          c.note-w.ensures c.tell.ensures c.put4-k.ensures c.cross-x.ensures
+    let s = c in let a = s.args in λ o h. opened-stored a.cells.now a.occ.now a.emp.now a.n a.c o h c.tell.new.cells c.put4-k.new.s c.cross-x.new.to c.cross-x.new.from _ c.note-w.result _
+    c.note-w.ensures c.tell.ensures c.put4-k.ensures c.cross-x.ensures

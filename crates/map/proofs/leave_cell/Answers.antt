@@ -1,7 +1,5 @@
 -- Each way out is one of `Passing`: the last has left, or others stay.
 use Rattle.map.proofs.Passing.{crowd-shows, leaves-closes, leaves-room, left-last, left-others}
-use mathlib.Core.Path.{refl}
-use borrow.Author.Rules.{rules}
 use Rattle.map.proofs.leave_cell.Goals as goal
 
 pub how_many-k-requires : goal.how_many-k-requires
@@ -15,9 +13,9 @@ remove_entry-requires c = let s = c in let a = s.args in (s.requires.1, leaves-c
 
 pub returns-then-k-le1-clause-by_index : goal.returns-then-k-le1-clause-by_index
 returns-then-k-le1-clause-by_index c =
-    let s = c in let a = s.args in  λ e o h. left-last a.cells.now a.crowd.now a.occ.now a.emp.now a.n e a.c o h c.remove_entry.new.cells c.remove4.new.s c.remove_entry.new.occ c.remove_entry.new.emp
-          c.remove4.result c.how_many-k.result c.remove_entry.result c.how_many-k.ensures c.if-k-le1.true c.remove4.ensures
-          (c.remove_entry.ensures.stored o (leaves-closes a.cells.now a.crowd.now a.occ.now a.emp.now a.n e a.c o h))
+    let s = c in let a = s.args in λ e o h. left-last a.cells.now a.crowd.now a.occ.now a.emp.now a.n e a.c o h c.remove_entry.new.cells c.remove4.new.s c.remove_entry.new.occ c.remove_entry.new.emp
+    c.remove4.result c.how_many-k.result c.remove_entry.result c.how_many-k.ensures c.if-k-le1.true c.remove4.ensures
+    (c.remove_entry.ensures.stored o (leaves-closes a.cells.now a.crowd.now a.occ.now a.emp.now a.n e a.c o h))
 
 pub set_count-requires : goal.set_count-requires
 set_count-requires c =
@@ -26,5 +24,5 @@ set_count-requires c =
 
 pub returns-clause-by_index : goal.returns-clause-by_index
 returns-clause-by_index c =
-    let s = c in let a = s.args in  λ e o h. left-others a.cells.now a.crowd.now a.occ.now a.emp.now a.n e a.c o h a.cells.now c.set_count.new.crowd a.occ.now a.emp.now
-          c.set_count.result c.how_many-k.result a.n c.how_many-k.ensures c.if-k-le1.false c.set_count.ensures h.peopled.stored
+    let s = c in let a = s.args in λ e o h. left-others a.cells.now a.crowd.now a.occ.now a.emp.now a.n e a.c o h a.cells.now c.set_count.new.crowd a.occ.now a.emp.now
+    c.set_count.result c.how_many-k.result a.n c.how_many-k.ensures c.if-k-le1.false c.set_count.ensures h.peopled.stored

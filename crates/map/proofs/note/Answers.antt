@@ -1,17 +1,15 @@
 -- After k numbers the bits of the first k neighbours are noted.
 use Rattle.layout.specs.Widths.{cell_width}
 use Rattle.map.specs.Laws.Tables.{note-none, note-yes, note-no, note-skip}
-use Rattle.map.specs.Told.{of_kind, noted}
+use Rattle.map.specs.Told.{of_kind}
 use Rattle.table.specs.Rows.{cell, table4}
 use Rattle.table.specs.Laws.Kinds.{cell-lawful}
 use Rattle.table.specs.Laws.Answers.{is_among}
 use Rattle.layout.specs.Rows.{neighbour_of}
 use Rattle.model.specs.Lists.{has, keys}
 use Rattle.component.specs.Order.{same}
-use mathlib.Core.Path.{◌≡◌, sym, ap, ◌∙◌}
+use mathlib.Core.Path.{sym, ap, ◌∙◌}
 use native.Mathlib.Omega.{arith}
-use Prim.Native.Nat.{ℕ, ◌-◌, ◌≤◌}
-use borrow.Author.Rules.{rules}
 use Rattle.map.proofs.note.Goals as goal
 
 pub loop-k-init : goal.loop-k-init

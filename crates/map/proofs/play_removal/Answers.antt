@@ -4,7 +4,6 @@ use Rattle.map.proofs.Moving.{ents-shows}
 use Rattle.map.specs.Held.{Held}
 use Rattle.model.specs.Occupancy.{Occupancy}
 use mathlib.Core.Path.{subst}
-use borrow.Author.Rules.{rules}
 use Rattle.map.proofs.play_removal.Goals as goal
 
 pub stand_of-s-requires : goal.stand_of-s-requires

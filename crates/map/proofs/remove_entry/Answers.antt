@@ -1,7 +1,6 @@
 -- The tables are those of `Entries`, closed.
 use Rattle.map.proofs.Entries.{closes-shown, closes-gone, closed-stored}
 use lib.ListN.{length}
-use mathlib.Core.Path.{refl, ◌∙◌}
 use Rattle.map.proofs.remove_entry.Goals as goal
 
 pub remove4-k-requires : goal.remove4-k-requires
@@ -22,5 +21,5 @@ cross-x-requires c =
 
 pub returns-clause-stored : goal.returns-clause-stored
 returns-clause-stored c =
-    let s = c in let a = s.args in  λ o h. closed-stored a.cells.now a.occ.now a.emp.now a.n a.c o h c.remove4-k.new.s c.tell.new.cells c.cross-x.new.from c.cross-x.new.to _ _
-          c.remove4-k.ensures c.tell.ensures c.cross-x.ensures
+    let s = c in let a = s.args in λ o h. closed-stored a.cells.now a.occ.now a.emp.now a.n a.c o h c.remove4-k.new.s c.tell.new.cells c.cross-x.new.from c.cross-x.new.to _ _
+    c.remove4-k.ensures c.tell.ensures c.cross-x.ensures

@@ -1,6 +1,5 @@
 -- The word that is written stands in its row.
 use Rattle.map.proofs.Steps.{word_over}
-use borrow.Author.Rules.{rules}
 use Rattle.map.proofs.revise.Goals as goal
 
 pub returns : goal.returns

@@ -1,6 +1,5 @@
 use Rattle.map.proofs.Steps.{set_is, clear-is}
 use mathlib.Core.Path.{◌∙◌}
-use borrow.Author.Rules.{rules}
 use Rattle.map.proofs.revised.Goals as goal
 
 pub returns-then-joins : goal.returns-then-joins

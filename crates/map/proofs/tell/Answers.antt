@@ -1,15 +1,13 @@
 -- After k numbers the first k neighbours are told.
 use Rattle.layout.specs.Widths.{cell_width}
 use Rattle.map.specs.Laws.Tables.{told_none, told_more, told-skip}
-use Rattle.map.specs.Told.{TableIs, told_one, of_kind, told}
-use Rattle.table.specs.Rows.{cell, table4}
+use Rattle.map.specs.Told.{told_one, of_kind}
+use Rattle.table.specs.Rows.{table4}
 use Rattle.layout.specs.Rows.{neighbour_of}
 use Rattle.model.specs.Lists.{change}
-use lib.ListN.{length}
-use mathlib.Core.Path.{◌≡◌, refl, sym, ap, ◌∙◌}
+use mathlib.Core.Path.{refl, sym, ap, ◌∙◌}
 use native.Mathlib.Omega.{arith}
-use Prim.Native.Nat.{ℕ, ◌+◌, ◌-◌, ◌≤◌}
-use borrow.Author.Rules.{rules}
+use Prim.Native.Nat.{◌+◌, ◌-◌}
 use Rattle.map.proofs.tell.Goals as goal
 
 pub loop-k-init : goal.loop-k-init

@@ -1,15 +1,12 @@
 -- After k numbers the first k neighbours are told.
 use Rattle.layout.specs.Widths.{cell_width}
-use Rattle.map.specs.Laws.Tables.{told_none, told_more, told-skip}
-use Rattle.map.specs.Told.{TableIs, told_one, of_kind, told}
+use Rattle.map.specs.Told.{TableIs, of_kind, told}
 use Rattle.table.specs.Rows.{cell, table4}
 use Rattle.layout.specs.Rows.{neighbour_of}
 use Rattle.model.specs.Lists.{change}
 use lib.ListN.{length}
-use mathlib.Core.Path.{◌≡◌, refl, sym, ap, ◌∙◌}
-use native.Mathlib.Omega.{arith}
-use Prim.Native.Nat.{ℕ, ◌+◌, ◌-◌, ◌≤◌}
-use borrow.Author.Rules.{rules}
+use mathlib.Core.Path.{◌≡◌}
+use Prim.Native.Nat.{◌-◌, ◌≤◌}
 use Rattle.map.proofs.tell.Given as goal
 
 abbrev pub invariant-loop-k : goal.invariant-loop-k

@@ -8,7 +8,6 @@ use Rattle.component.specs.Order.{below}
 use mathlib.Core.Path.{sym, ◌∙◌, ap}
 use Prim.Native.Nat.{◌-◌}
 use native.Mathlib.Omega.{arith}
-use borrow.Author.Rules.{rules}
 use Rattle.map.proofs.tell_one.Goals as goal
 
 pub revise-requires : goal.revise-requires

@@ -1,7 +1,7 @@
 -- How many entities stand in each cell, before and after one enters or leaves.
-use Prim.Native.Nat.{ℕ, suc, ◌-◌, ◌≤◌, ◌<◌}
+use Prim.Native.Nat.{ℕ, suc, ◌≤◌, ◌<◌}
 use Rattle.std.proofs.Common.{arith, ◌∙◌, subst, ⊎_elim, T_not, lt→ltb, nltb→le}
-use Rattle.std.specs.Prelude.{◌≡◌, refl, ◌⊎◌, Bool, false, cond, ◌||◌, not, eqb}
+use Rattle.std.specs.Prelude.{◌≡◌, refl, Bool, false, cond, ◌||◌, not, eqb}
 use Rattle.std.proofs.Math.Path.{sym, ap}
 use Rattle.std.proofs.Math.Bool.{true}
 use mathlib.Core.List.Memᴰ.{cast as mem-cast}

@@ -18,8 +18,8 @@ use Rattle.model.specs.Places.{slot, offset_at}
 use Rattle.model.proofs.Laws.Slots.{offset-in, mask_is}
 use Rattle.model.proofs.Theorems.MasksExact.{leads-there}
 use Rattle.layout.specs.Rows.{number_of, neighbour_of}
-use Rattle.layout.specs.Laws.Kinds.{kind-touches, above, shift-at, touch-near}
-use Rattle.layout.specs.Laws.Numbers.{number-of-neighbour, number-range, neighbour-of-number, number-back}
+use Rattle.layout.proofs.Laws.Kinds.{kind-touches, above, shift-at, touch-near}
+use Rattle.layout.proofs.Laws.Numbers.{number-of-neighbour, number-range, neighbour-of-number, number-back}
 use Rattle.map.specs.Told.{revised, told_one, of_kind, told, noted}
 use Rattle.map.specs.Laws.Tables.{noted-bit, noted-few}
 

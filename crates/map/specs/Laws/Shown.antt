@@ -1,5 +1,5 @@
 -- What the words of the map show, before and after a cell opens or closes.
-use Rattle.std.specs.Prelude.{ℕ, ◌+◌, ◌≡◌, refl, true, false, cond, not, length}
+use Rattle.std.specs.Prelude.{ℕ, ◌≡◌, refl, true, false, cond, length}
 use Rattle.std.proofs.Common.{arith, ap, ◌∙◌, subst}
 use Rattle.std.proofs.Math.Path.{sym}
 use mathlib.Core.List.{List, [], ◌∷◌, Memᴰ as Mem}
@@ -15,7 +15,7 @@ use Rattle.model.proofs.Laws.Sorted.{Asc}
 use Rattle.model.proofs.Laws.Occupied.{occupied-asc, occupied-out}
 use Rattle.layout.specs.Widths.{cell_width, net_width}
 use Rattle.layout.specs.Rows.{neighbour_of, id_row, net_row, cells_image, net_image}
-use Rattle.layout.specs.Laws.Rows.{ids-wide, nets-wide}
+use Rattle.layout.proofs.Laws.Rows.{ids-wide, nets-wide}
 use Rattle.table.specs.Rows.{cell, table4, stored4}
 use Rattle.table.specs.Laws.Kinds.{cell-lawful}
 use Rattle.table.specs.Laws.Next.{put_next, drop-next}

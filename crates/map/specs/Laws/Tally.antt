@@ -2,7 +2,7 @@
 use Prim.Native.Nat.{ℕ, suc, ◌+◌, ◌-◌, ◌*◌, ◌≤◌, ◌<◌}
 use Rattle.std.proofs.Common.{add-one, sym, ◌∙◌, subst, ⊎_elim, take-append-drop}
 use native.Mathlib.Omega.{arith}
-use Rattle.std.specs.Prelude.{◌≡◌, refl, ◌⊎◌, Bool, true, cond, drop, get_or, replicate}
+use Rattle.std.specs.Prelude.{◌≡◌, refl, Bool, true, cond, drop, get_or, replicate}
 use Rattle.std.proofs.Math.Path.{ap}
 use mathlib.Core.List.Memᴰ.{append_cases}
 use mathlib.Core.List.Memᴰ.{append_left}
@@ -23,7 +23,7 @@ use Rattle.model.proofs.Laws.Sorted.{nil, asc-once, asc-equal, add-out, add-in, 
 use Rattle.model.proofs.Laws.Occupied.{Sound, stands-has}
 use Rattle.layout.specs.Widths.{crowd_width, entity_cell, entity_width}
 use Rattle.layout.specs.Rows.{id_row, entity_of, entities_image, entities_in}
-use Rattle.layout.specs.Laws.Images.{entities-laws}
+use Rattle.layout.proofs.Laws.Images.{entities-laws}
 use Rattle.table.specs.Rows.{number, cell, cell_at, rows_of, entry_of, table_of, table1, table4, image_of, has_room4}
 use Rattle.table.specs.Laws.Kinds.{cell-lawful}
 use Rattle.table.specs.Laws.Words.{entry_at, take-table, table-length, rest_at}

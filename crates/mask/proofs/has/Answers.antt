@@ -1,7 +1,6 @@
 -- The expression is the definition.
 use mathlib.Core.Path.{refl}
 use Rattle.model.specs.Masks.{bit}
-use borrow.Author.Rules.{rules}
 use Rattle.mask.proofs.has.Goals as goal
 
 pub returns : goal.returns

@@ -9,7 +9,7 @@ use Rattle.model.specs.Masks.{with_bit, mask_of}
 use Rattle.model.specs.Places.{slot}
 use Rattle.table.specs.Rows.{table4}
 use Rattle.layout.specs.Widths.{cell_width}
-use Rattle.layout.specs.Laws.Kinds.{kind-touches}
+use Rattle.layout.proofs.Laws.Kinds.{kind-touches}
 use Rattle.masks_check.specs.Laws.{scan-none, scan-yes, scan-no, scan-end}
 use borrow.Author.Rules.{rules}
 use Rattle.masks_check.proofs.scanned.Statement.{statement}

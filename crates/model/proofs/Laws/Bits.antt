@@ -1,6 +1,6 @@
 -- The bits of numbers: read, set, cleared, counted.
-use Rattle.std.specs.Prelude.{ℕ, zero, suc, ◌+◌, ◌-◌, ◌*◌, ◌/◌, ◌%◌, ◌^◌, ◌≤◌, ◌<◌, min, max, ◌≡◌, refl, Bool, true, false, cond, ◌&&◌, ◌||◌, not, List, [], ◌∷◌, eqb, length, get_or}
-use Rattle.std.proofs.Common.{pow-suc, mod-lt, arith, sym, ap, ap₂, ◌∙◌, subst, shr-shr}
+use Rattle.std.specs.Prelude.{ℕ, zero, suc, ◌+◌, ◌-◌, ◌*◌, ◌/◌, ◌%◌, ◌^◌, ◌<◌, min, max, ◌≡◌, refl, Bool, true, false, cond, ◌&&◌, ◌||◌, not, List, [], ◌∷◌, eqb, length, get_or}
+use Rattle.std.proofs.Common.{pow-suc, mod-lt, arith, sym, ap, ◌∙◌, subst, shr-shr}
 use Rattle.std.proofs.Math.Dec.{eqb-zero-suc, eqb-suc-zero, eqb-suc-suc}
 use Rattle.std.proofs.Math.Pow.{pow-lt}
 use Rattle.std.specs.Int.Bits.{bit_and, bit_or, and_step, or_step}

@@ -2,7 +2,7 @@
 use Rattle.std.specs.Prelude.{ℕ, ◌≤◌, ◌<◌, ◌≡◌, refl, Bool, ◌&&◌, not, T, eqb, leb, ltb, length}
 use Rattle.std.proofs.Common.{sym, ◌∙◌, subst, eqb→eq, leb→le, le→leb, ltb→lt, lt→ltb}
 use mathlib.Core.List.Memᴰ.{not-nil as mem-nil}
-use mathlib.Core.List.{List, [], Memᴰ as Mem}
+use mathlib.Core.List.{[], Memᴰ as Mem}
 use Rattle.std.proofs.Math.Dec.{eqb_refl}
 use Rattle.model.specs.Lists.{all, has, equal, is_ascending, keys, values}
 use Rattle.model.specs.Cells.{Cell, same, below, cell_in_range}

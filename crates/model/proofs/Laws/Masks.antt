@@ -1,12 +1,12 @@
 -- Masks: each cell's among some cells.
-use Rattle.std.specs.Prelude.{ℕ, ◌≡◌, refl, Bool, true, false, cond, ◌&&◌, ◌||◌, T}
+use Rattle.std.specs.Prelude.{◌≡◌, refl, Bool, true, false, cond, ◌&&◌, ◌||◌, T}
 use Rattle.std.proofs.Common.{sym, ◌∙◌, ap₂}
 use Rattle.std.proofs.Math.Path.{ap}
 use mathlib.Core.List.Memᴰ.{head}
 use mathlib.Core.List.Memᴰ.{tail}
 use mathlib.Core.List.{List, [], ◌∷◌, Memᴰ as Mem}
 use Rattle.std.proofs.Math.Option.{none, some}
-use Rattle.model.specs.Lists.{any, keep, has, each, add, keys, get, put, only, change}
+use Rattle.model.specs.Lists.{keep, has, each, add, keys, get, put, only, change}
 use Rattle.model.specs.Cells.{Cell, Offset, offsets26, leads}
 use Rattle.model.specs.Masks.{number, leads_to, mask_of, masked}
 use Rattle.model.proofs.Laws.Tests.{T_true, T_false, and-fst, same_test}

@@ -2,8 +2,6 @@
 use Rattle.std.specs.Prelude.{ℕ, zero, suc, ◌+◌, ◌≤◌, ◌<◌, ◌≡◌, refl, ◌⊎◌, Bool, true, false, cond, ◌&&◌, not, T, length}
 use Rattle.std.proofs.Common.{arith, sym, ◌∙◌, ap, subst, inl, inr, ⊎_elim, T_not}
 use mathlib.Core.List.Memᴰ.{append_cases}
-use mathlib.Core.List.Memᴰ.{append_left}
-use mathlib.Core.List.Memᴰ.{append_right}
 use mathlib.Core.List.Memᴰ.{cases_cons as mem-cons}
 use mathlib.Core.List.Memᴰ.{cast as mem-cast}
 use mathlib.Core.List.Memᴰ.{head}
@@ -11,7 +9,7 @@ use mathlib.Core.List.Memᴰ.{not-nil as mem-nil}
 use mathlib.Core.List.Memᴰ.{tail}
 use mathlib.Core.List.{List, [], ◌∷◌, ◌++◌, append_assoc, Memᴰ as Mem}
 use Rattle.std.proofs.Math.Dec.{not_T}
-use Rattle.model.specs.Lists.{keep, any, all, has, without, equal, distinct, whilst, each, gather, run, keys, count}
+use Rattle.model.specs.Lists.{keep, any, all, has, without, equal, whilst, each, gather, run, keys, count}
 use Rattle.model.proofs.Laws.Tests.{and-fst, and-snd, and_both, or_cases, or_left, or_right, decided, cond_yes, cond_no}
 use Rattle.model.proofs.Laws.Orders.{Ordered, is-or, differ, differs, numbers}
 

@@ -9,9 +9,8 @@ use mathlib.Core.List.Memᴰ.{not-nil as mem-nil}
 use mathlib.Core.List.Memᴰ.{tail}
 use mathlib.Core.List.{List, [], ◌∷◌, ◌++◌, Memᴰ as Mem}
 use Rattle.std.proofs.Math.Option.{Option, none, some}
-use Rattle.model.specs.Lists.{has, without, each, add, ascending, run, values, put, get, drop_key}
+use Rattle.model.specs.Lists.{has, without, each, add, run, values, put, get, drop_key}
 use Rattle.model.specs.Cells.{Cell, same, below}
-use Rattle.model.specs.Masks.{masked}
 use Rattle.model.specs.Occupancy.{Occupancy, Event, remove, move_to, Batch, events, occupied, stands_in, with_entities, start_batch, Passage, leaves, enters, leaves_from, is_at, passages, open_cell, close_cell, enter, leave, pass, play, trace, play_batch}
 use Rattle.model.proofs.Laws.Tests.{T_true, T_false}
 use Rattle.model.proofs.Laws.Orders.{numbers, cells}

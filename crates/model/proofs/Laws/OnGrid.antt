@@ -1,14 +1,13 @@
 -- Occupancy on one grid: a passage elsewhere changes nothing there, and a passage there does what it does on the grid by itself.
 use Rattle.std.specs.Prelude.{ℕ, ◌≡◌, refl, Bool, true, false, cond, not, T, eqb, ltb}
 use Rattle.std.proofs.Common.{sym, ◌∙◌, ap, ap₂, subst, T_not}
-use mathlib.Core.List.{List, [], ◌∷◌, ◌++◌, Memᴰ as Mem}
-use Rattle.std.proofs.Math.Dec.{not_T}
+use mathlib.Core.List.{List, ◌∷◌, Memᴰ as Mem}
 use Rattle.model.specs.Lists.{keep, has, without, add, run, put, only, drop_key}
 use Rattle.model.specs.Cells.{Cell, same, below}
 use Rattle.model.specs.Masks.{masked}
 use Rattle.model.specs.Occupancy.{Occupancy, Batch, Passage, leaves, enters, events, occupied, stands_in, with_entities, start_batch, open_cell, close_cell, pass, trace, play_batch}
 use Rattle.model.specs.Runs.{on_grid, passage_on}
-use Rattle.model.proofs.Laws.Tests.{T_true, T_false, false_of, same_test}
+use Rattle.model.proofs.Laws.Tests.{T_true, T_false, same_test}
 use Rattle.model.proofs.Laws.Orders.{numbers, cells, differ}
 use Rattle.model.proofs.Laws.Members.{keep-in, keep_out, keep-swap, any-in, any_out}
 use Rattle.model.proofs.Laws.Sorted.{Asc, keep-asc, keep-add-yes, keep-add-no}

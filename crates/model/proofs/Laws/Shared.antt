@@ -6,7 +6,7 @@ use mathlib.Core.List.Memᴰ.{cast as mem-cast}
 use mathlib.Core.List.Memᴰ.{head}
 use mathlib.Core.List.Memᴰ.{tail}
 use mathlib.Core.List.{List, ◌∷◌, Memᴰ as Mem}
-use Rattle.model.specs.Lists.{all, without, keys}
+use Rattle.model.specs.Lists.{without, keys}
 use Rattle.model.specs.Cells.{Cell, same}
 use Rattle.model.specs.Paths.{Joined}
 use Rattle.model.specs.Groups.{Ids, part}

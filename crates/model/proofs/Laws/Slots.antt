@@ -1,5 +1,5 @@
 -- Which bit of a mask tells of which cell, and what a mask becomes when a cell joins or leaves.
-use Rattle.std.specs.Prelude.{ℕ, zero, suc, ◌+◌, ◌-◌, ◌*◌, ◌/◌, ◌%◌, ◌^◌, ◌≤◌, ◌<◌, ◌≡◌, refl, ◌⊎◌, Bool, true, cond, ◌&&◌, ◌||◌, not, T, eqb, ltb, length, get_or}
+use Rattle.std.specs.Prelude.{ℕ, zero, suc, ◌+◌, ◌-◌, ◌*◌, ◌/◌, ◌%◌, ◌^◌, ◌≤◌, ◌<◌, ◌≡◌, refl, Bool, true, cond, ◌&&◌, ◌||◌, not, T, eqb, length, get_or}
 use Rattle.std.proofs.Common.{arith, sym, ap, ◌∙◌, subst, ⊎_elim, T_not, eqb→eq, lt-ltb, le-ltb}
 use Rattle.std.proofs.Math.Bool.{false}
 use mathlib.Core.List.Memᴰ.{head}
@@ -7,14 +7,13 @@ use mathlib.Core.List.Memᴰ.{tail}
 use mathlib.Core.List.{List, [], ◌∷◌, ◌++◌, Memᴰ as Mem}
 use Rattle.std.proofs.Math.Dec.{not_T}
 use Rattle.component.specs.Around.{step_n, Within}
-use Rattle.component.specs.Touch.{touches}
 use Rattle.component.specs.Laws.Touch.{touches-within}
 use Rattle.component.specs.Laws.Tests.{le-or-lt}
-use Rattle.model.specs.Lists.{all, any, keep, each, without, add, count, put, drop_key, change}
+use Rattle.model.specs.Lists.{all, any, each, without, add, count, put, drop_key, change}
 use Rattle.model.specs.Cells.{Cell, same, below, Offset, Offsets, offsets26, all26, leads, touch_by}
-use Rattle.model.specs.Masks.{number, bit, with_bit, without_bit, leads_to, mask_of, masked}
+use Rattle.model.specs.Masks.{bit, with_bit, without_bit, leads_to, mask_of, masked}
 use Rattle.model.specs.Places.{offset_at, place_in, slot_of, slot}
-use Rattle.model.proofs.Laws.Tests.{cond_no, T_true, T_false, true_of, and-fst, and-snd, and_both, or_cases, or_left, or_right, eqb_of, same_test}
+use Rattle.model.proofs.Laws.Tests.{cond_no, T_true, true_of, and-fst, and-snd, and_both, or_cases, or_left, or_right, eqb_of, same_test}
 use Rattle.model.proofs.Laws.Orders.{cells}
 use Rattle.model.proofs.Laws.Members.{all-out, any-in, any_out, count-in, without_in, without-out, each-ext}
 use Rattle.model.proofs.Laws.Sorted.{add-in, add-out, add-self}

@@ -1,11 +1,10 @@
 -- Cells from which n steps lead to a cell, and the walk along them.
-use Rattle.std.specs.Prelude.{ℕ, zero, suc, ◌≤◌, ◌<◌, ◌≡◌, refl, ◌↔◌, ◌⊎◌, Bool, T, ltb, leb, length}
-use Rattle.std.proofs.Common.{arith, sym, ◌∙◌, ap, subst, inl, inr, ⊎_elim, ltb→lt, nltb→le, leb→le}
+use Rattle.std.specs.Prelude.{ℕ, zero, suc, ◌≤◌, ◌<◌, ◌≡◌, refl, ◌⊎◌, Bool, T, ltb, length}
+use Rattle.std.proofs.Common.{arith, sym, ◌∙◌, ap, subst, inl, inr, ⊎_elim, ltb→lt, nltb→le}
 use mathlib.Core.List.Memᴰ.{cases_cons as mem-cons}
 use mathlib.Core.List.Memᴰ.{head}
 use mathlib.Core.List.Memᴰ.{not-nil as mem-nil}
 use mathlib.Core.List.{List, [], ◌∷◌, Memᴰ as Mem}
-use Rattle.std.proofs.Math.Dec.{nleb→lt}
 use Rattle.model.specs.Lists.{keep, any, has, count}
 use Rattle.model.specs.Cells.{Cell, same, below}
 use Rattle.model.specs.Paths.{Joined}

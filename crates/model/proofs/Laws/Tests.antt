@@ -1,6 +1,6 @@
 -- Facts on Bool tests.
-use Rattle.std.specs.Prelude.{ℕ, ◌≤◌, ◌<◌, ◌≡◌, refl, ◌⊎◌, Bool, true, false, cond, ◌&&◌, ◌||◌, not, T, eqb, leb, ltb}
-use Rattle.std.proofs.Common.{arith, sym, subst, inl, inr, eqb→eq, leb→le, ltb→lt, T_not}
+use Rattle.std.specs.Prelude.{ℕ, ◌≤◌, ◌≡◌, refl, ◌⊎◌, Bool, true, false, cond, ◌||◌, not, T, eqb, ltb}
+use Rattle.std.proofs.Common.{arith, sym, subst, inl, inr, eqb→eq, ltb→lt, T_not}
 use Rattle.std.proofs.Math.Dec.{eqb_refl, not_T}
 pub use Rattle.component.specs.Laws.Tests.{and-fst, and-snd, and_both, or_cases, or_left, or_right, or-not, and-not}
 

@@ -2,7 +2,7 @@
 use Rattle.std.specs.Prelude.{◌≡◌, ◌⊎◌, Bool, not}
 use Rattle.std.proofs.Common.{sym, ap, subst, inl, inr, ⊎_elim}
 use mathlib.Core.List.{List, Memᴰ as Mem}
-use Rattle.model.specs.Lists.{keys, values, put, drop_key, change}
+use Rattle.model.specs.Lists.{keys, values, put, drop_key}
 use Rattle.model.proofs.Laws.Orders.{Ordered, differ}
 use Rattle.model.proofs.Laws.Members.{keep-in, keep_out, each_in, each-out, key_in}
 use Rattle.model.proofs.Laws.Sorted.{Asc}

@@ -16,7 +16,7 @@ use Rattle.model.specs.Cells.{Cell, cell_in_range}
 use Rattle.table.specs.Moves.{over}
 use Rattle.neighbourhood.specs.Answers.{answer_words}
 use Rattle.batch.specs.Words.{move_at, moves_in}
-use Rattle.batch.specs.Laws.Words.{moves_more, move-from}
+use Rattle.batch.proofs.Laws.Words.{moves_more, move-from}
 use Rattle.metres.specs.declared.Placing.{Placing}
 use Rattle.layout.specs.Widths.{move_width}
 use Rattle.moves.specs.Words.{move_words, moved, move_of}

@@ -7,7 +7,7 @@ use Prim.Native.Nat.{ℕ, ◌+◌, ◌-◌, ◌*◌, ◌≤◌, ◌<◌}
 use native.Mathlib.Omega.{arith}
 use mathlib.Core.List.{List, ◌++◌, append-nil}
 use mathlib.Core.Path.{◌≡◌, refl, sym, ◌∙◌, ap}
-use lib.ListN.{length, take, drop}
+use lib.ListN.{length, take}
 use borrow.Author.Rules.{rules}
 use Rattle.model.specs.Lists.{gather, keep, keys}
 use Rattle.model.specs.Cells.{Cell}
@@ -17,9 +17,9 @@ use Rattle.layout.specs.Widths.{answer_width, cell_width}
 use Rattle.neighbourhood.specs.Rows.{row_for}
 use Rattle.neighbourhood.specs.Answers.{answer_words}
 use Rattle.neighbourhood.specs.Beside.{beside, plane_start}
-use Rattle.neighbourhood.specs.Laws.Cubes.{beside-step, beside-past}
-use Rattle.neighbourhood.specs.Laws.Planes.{plane-within, planes-order, beside-start, beside-stop}
-use Rattle.neighbourhood.specs.Laws.Walking.{behind-rest, over-length}
+use Rattle.neighbourhood.proofs.Laws.Cubes.{beside-step, beside-past}
+use Rattle.neighbourhood.proofs.Laws.Planes.{plane-within, planes-order, beside-start, beside-stop}
+use Rattle.neighbourhood.proofs.Laws.Walking.{behind-rest, over-length}
 use Rattle.neighbourhood.proofs.cube_into.Goals as goal
 use Rattle.neighbourhood.proofs.cube_into.Lts as lts
 use Rattle.neighbourhood.proofs.cube_into.Tie as tie

@@ -1,21 +1,13 @@
 -- The loop goes over the rows of the planes and writes the cells beside the centre.
-use Prim.Native.Nat.{ℕ, ◌+◌, ◌-◌, ◌*◌, ◌≤◌, ◌<◌}
-use native.Mathlib.Omega.{arith}
-use mathlib.Core.List.{List, ◌++◌, append-nil}
-use mathlib.Core.Path.{◌≡◌, refl, sym, ◌∙◌, ap}
+use Prim.Native.Nat.{◌+◌, ◌-◌, ◌*◌, ◌≤◌}
+use mathlib.Core.List.{◌++◌}
+use mathlib.Core.Path.{◌≡◌}
 use lib.ListN.{length, take, drop}
-use borrow.Author.Rules.{rules}
 use Rattle.model.specs.Lists.{gather, keep, keys}
-use Rattle.model.specs.Cells.{Cell}
-use Rattle.table.specs.Rows.{cell, table4}
-use Rattle.table.specs.Laws.Images.{table-facts}
+use Rattle.table.specs.Rows.{table4}
 use Rattle.layout.specs.Widths.{answer_width, cell_width}
-use Rattle.neighbourhood.specs.Rows.{row_for}
 use Rattle.neighbourhood.specs.Answers.{answer_words}
-use Rattle.neighbourhood.specs.Beside.{beside, plane_start}
-use Rattle.neighbourhood.specs.Laws.Cubes.{beside-step, beside-past}
-use Rattle.neighbourhood.specs.Laws.Planes.{plane-within, planes-order, beside-start, beside-stop}
-use Rattle.neighbourhood.specs.Laws.Walking.{behind-rest, over-length}
+use Rattle.neighbourhood.specs.Beside.{beside}
 use Rattle.neighbourhood.proofs.cube_into.Given as goal
 
 abbrev pub invariant-loop-i : goal.invariant-loop-i

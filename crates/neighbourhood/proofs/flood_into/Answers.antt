@@ -1,16 +1,13 @@
 -- The loop writes the next cell behind those that are written.
 -- The row of the loop stands within the words.
-use Prim.Native.Nat.{◌+◌, ◌-◌, ◌*◌, ◌≤◌, ◌<◌}
 use native.Mathlib.Omega.{arith}
 use mathlib.Core.Path.{◌≡◌, sym, ◌∙◌}
 use mathlib.Core.List.{List}
-use lib.ListN.{length, take, get_or}
-use borrow.Author.Rules.{rules}
+use lib.ListN.{length}
 use Rattle.model.specs.Cells.{Cell}
-use Rattle.layout.specs.Widths.{cell_width}
 use Rattle.neighbourhood.specs.Rows.{row_cell}
-use Rattle.neighbourhood.specs.Answers.{filled, cells_of_rows}
-use Rattle.neighbourhood.specs.Laws.Filling.{filled_none, filling-kept, filling_step, filling-end, rows_long, rows_at}
+use Rattle.neighbourhood.specs.Answers.{cells_of_rows}
+use Rattle.neighbourhood.proofs.Laws.Filling.{filled_none, filling_step, rows_long, rows_at}
 use Rattle.neighbourhood.proofs.flood_into.Goals as goal
 use Rattle.neighbourhood.proofs.flood_into.Lts as lts
 use Rattle.neighbourhood.proofs.flood_into.Tie as tie

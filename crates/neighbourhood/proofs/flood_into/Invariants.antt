@@ -1,15 +1,8 @@
 -- The loop writes the next cell behind those that are written.
-use Prim.Native.Nat.{◌+◌, ◌-◌, ◌*◌, ◌≤◌, ◌<◌}
-use native.Mathlib.Omega.{arith}
-use mathlib.Core.Path.{◌≡◌, sym, ◌∙◌}
-use mathlib.Core.List.{List}
-use lib.ListN.{length, take, get_or}
-use borrow.Author.Rules.{rules}
-use Rattle.model.specs.Cells.{Cell}
-use Rattle.layout.specs.Widths.{cell_width}
-use Rattle.neighbourhood.specs.Rows.{row_cell}
+use Prim.Native.Nat.{◌-◌, ◌≤◌}
+use mathlib.Core.Path.{◌≡◌}
+use lib.ListN.{take}
 use Rattle.neighbourhood.specs.Answers.{filled, cells_of_rows}
-use Rattle.neighbourhood.specs.Laws.Filling.{filled_none, filling-kept, filling_step, filling-end, rows_long, rows_at}
 use Rattle.neighbourhood.proofs.flood_into.Given as goal
 
 abbrev pub invariant-loop-k : goal.invariant-loop-k

@@ -3,16 +3,16 @@
 -- How far the flood is, for the table that is known to stand there.
 -- The row to be done is there.
 -- The mark of the rows that it leads to is a word.
-use Prim.Native.Nat.{ℕ, ◌+◌, ◌-◌, ◌≤◌, ◌<◌}
+use Prim.Native.Nat.{ℕ, ◌+◌, ◌≤◌, ◌<◌}
 use native.Mathlib.Omega.{arith}
-use mathlib.Core.Path.{refl, sym, ◌∙◌, subst}
+use mathlib.Core.Path.{refl, sym, subst}
 use mathlib.Core.List.{List}
-use lib.ListN.{length, get_or, set, length-set}
+use lib.ListN.{length, get_or, set}
 use borrow.Author.Rules.{rules}
 use Rattle.model.specs.Cells.{Cell}
 use Rattle.neighbourhood.specs.Fronts.{Front, front}
 use Rattle.neighbourhood.specs.Standing.{Cells, Floodable}
-use Rattle.neighbourhood.specs.Laws.Reads.{cells-table}
+use Rattle.neighbourhood.proofs.Laws.Reads.{cells-table}
 use Rattle.neighbourhood.proofs.Wave.{Wave, wave-start, wave-few, wave-fits, wave-row, wave-small, wave-space, wave-there, wave-exact, wave-step, wave-end}
 use Rattle.neighbourhood.proofs.flood_rows.Goals as goal
 use Rattle.neighbourhood.proofs.flood_rows.Lts as lts

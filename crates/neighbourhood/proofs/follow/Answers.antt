@@ -5,7 +5,7 @@
 -- The next of the rows.
 -- The row has a mark.
 -- Where the row is unmarked, the queue has space.
-use Prim.Native.Nat.{ℕ, ◌+◌, ◌-◌, ◌*◌, ◌≤◌, ◌<◌}
+use Prim.Native.Nat.{ℕ, ◌+◌, ◌*◌, ◌≤◌, ◌<◌}
 use native.Mathlib.Omega.{arith}
 use mathlib.Core.Path.{◌≡◌, sym, ap, ◌∙◌}
 use mathlib.Core.Bool.{true}
@@ -18,8 +18,8 @@ use Rattle.table.specs.Laws.Images.{table-facts}
 use Rattle.layout.specs.Widths.{cell_width}
 use Rattle.neighbourhood.specs.Rows.{row_mask, onward, onward_from}
 use Rattle.neighbourhood.specs.Fronts.{Front, front}
-use Rattle.neighbourhood.specs.Laws.Listing.{onward-all, onward-none, onward-yes, onward-no}
-use Rattle.neighbourhood.proofs.Following.{Going, going_start, going_end, going-same, going-old, going-space, going-new}
+use Rattle.neighbourhood.proofs.Laws.Listing.{onward-all, onward-none, onward-yes, onward-no}
+use Rattle.neighbourhood.proofs.Following.{going_start, going_end, going-same, going-old, going-space, going-new}
 use Rattle.neighbourhood.proofs.follow.Goals as goal
 use Rattle.neighbourhood.proofs.follow.Lts as lts
 use Rattle.neighbourhood.proofs.follow.Tie as tie

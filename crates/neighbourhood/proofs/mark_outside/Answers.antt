@@ -1,18 +1,17 @@
 -- The rows passed are marked if they are outside.
 -- The row of the loop has a mark.
 -- What the test of its cell answers.
-use Prim.Native.Nat.{ℕ, ◌-◌, ◌≤◌, ◌<◌}
+use Prim.Native.Nat.{ℕ, ◌<◌}
 use native.Mathlib.Omega.{arith}
 use mathlib.Core.Path.{◌≡◌, sym, ap, ◌∙◌, subst}
 use mir.Facts.{to_z-of_z}
 use lib.ListN.{length}
-use borrow.Author.Rules.{rules}
 use Rattle.component.specs.Stored.{biased}
 use Rattle.model.specs.Cells.{Cell}
 use Rattle.model.specs.Flood.{within_depth}
 use Rattle.neighbourhood.specs.Rows.{row_cell}
 use Rattle.neighbourhood.specs.Standing.{OutsideMarked}
-use Rattle.neighbourhood.specs.Laws.Outside.{outside-none, outside-past, outside-mark}
+use Rattle.neighbourhood.proofs.Laws.Outside.{outside-past, outside-mark}
 use Rattle.neighbourhood.proofs.mark_outside.Goals as goal
 use Rattle.neighbourhood.proofs.mark_outside.Lts as lts
 use Rattle.neighbourhood.proofs.mark_outside.Tie as tie

@@ -1,11 +1,10 @@
 -- The cell is that of a row, so its words are words of 64 bits.
 use native.Mathlib.Omega.{arith}
 use mathlib.Core.Path.{sym, ap, ◌∙◌, subst}
-use borrow.Author.Rules.{rules}
 use Rattle.model.specs.Cells.{Cell, shift}
 use Rattle.model.specs.Places.{offset_at}
 use Rattle.neighbourhood.specs.Rows.{Lands, row_cell, row_near}
-use Rattle.neighbourhood.specs.Laws.Landing.{lands}
+use Rattle.neighbourhood.proofs.Laws.Landing.{lands}
 use Rattle.neighbourhood.proofs.near_cell.Goals as goal
 
 pub near_of-requires : goal.near_of-requires

@@ -1,9 +1,7 @@
 -- The step on each axis is a digit of the place.
 -- The offset by the place in the block.
 use mathlib.Core.Path.{◌≡◌, sym, ap, ◌∙◌, subst}
-use borrow.Author.Rules.{rules}
-use Rattle.component.specs.Around.{step_n}
-use Rattle.model.specs.Cells.{Cell, shift}
+use Rattle.model.specs.Cells.{shift}
 use Rattle.model.specs.Places.{offset_at}
 use Rattle.model.proofs.Laws.Slots.{offset_of, offset-is}
 use Rattle.neighbourhood.specs.Rows.{Lands}

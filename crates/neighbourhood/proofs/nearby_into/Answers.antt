@@ -5,7 +5,7 @@
 -- The bit is set.
 -- One cell more.
 -- There is space for it.
-use Prim.Native.Nat.{ℕ, suc, ◌+◌, ◌-◌, ◌*◌, ◌≤◌}
+use Prim.Native.Nat.{ℕ, suc, ◌+◌, ◌*◌, ◌≤◌}
 use native.Mathlib.Omega.{arith}
 use mathlib.Core.Path.{◌≡◌, sym, ap, ◌∙◌}
 use mathlib.Core.Bool.{true}
@@ -15,12 +15,12 @@ use borrow.Author.Rules.{rules}
 use Rattle.model.specs.Lists.{keys}
 use Rattle.model.specs.Cells.{Cell, touch_at}
 use Rattle.model.specs.Masks.{bit, touching}
-use Rattle.layout.specs.Widths.{answer_width, cell_width}
+use Rattle.layout.specs.Widths.{answer_width}
 use Rattle.neighbourhood.specs.Rows.{row_cell, row_mask, row_near, row_list}
-use Rattle.neighbourhood.specs.Laws.Listing.{near_up_to, near_none, near_first, near-all, near-few, near-yes, near-no}
-use Rattle.neighbourhood.specs.Laws.Reads.{row-list, row-bit}
+use Rattle.neighbourhood.proofs.Laws.Listing.{near_up_to, near_none, near_first, near-all, near-few, near-yes, near-no}
+use Rattle.neighbourhood.proofs.Laws.Reads.{row-list, row-bit}
 use Rattle.neighbourhood.specs.Answers.{filled}
-use Rattle.neighbourhood.specs.Laws.Filling.{filled-length, Written, written-first, written-end, written_same, written_back}
+use Rattle.neighbourhood.proofs.Laws.Filling.{filled-length, written-first, written-end, written_same, written_back}
 use Rattle.neighbourhood.proofs.nearby_into.Goals as goal
 use Rattle.neighbourhood.proofs.nearby_into.Lts as lts
 use Rattle.neighbourhood.proofs.nearby_into.Tie as tie

@@ -1,10 +1,7 @@
 -- The row of the cell that the bit tells of.
-use mathlib.Core.Path.{ap, ◌∙◌}
-use borrow.Author.Rules.{rules}
 use Rattle.table.specs.Rows.{cell}
 use Rattle.table.specs.Laws.Images.{table-facts}
 use Rattle.layout.specs.Widths.{cell_width}
-use Rattle.neighbourhood.specs.Rows.{row_for}
 use Rattle.neighbourhood.proofs.next_row.Goals as goal
 
 pub near_cell-requires : goal.near_cell-requires

@@ -1,6 +1,5 @@
 -- The row is the number of the place that is found.
 use mathlib.Core.Path.{ap, ◌∙◌}
-use borrow.Author.Rules.{rules}
 use Rattle.table.specs.Rows.{placed}
 use Rattle.neighbourhood.specs.Rows.{row_for}
 use Rattle.neighbourhood.proofs.row_of.Goals as goal

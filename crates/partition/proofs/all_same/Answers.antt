@@ -1,12 +1,7 @@
 -- After j groups the question is about those that are left.
-use Rattle.partition.specs.Laws.Join.{all-on, all-not, all_end}
-use Rattle.model.specs.Lists.{all}
-use lib.ListN.{take, drop, get_or}
-use lib.Dec.{eqb}
-use mathlib.Core.Path.{◌≡◌, refl}
+use Rattle.partition.specs.Laws.Join.{all-not}
+use lib.ListN.{get_or}
 use native.Mathlib.Omega.{arith}
-use Prim.Native.Nat.{◌-◌, ◌≤◌}
-use borrow.Author.Rules.{rules}
 use Rattle.partition.proofs.all_same.Goals as goal
 
 pub returns-else-first-found : goal.returns-else-first-found

@@ -1,12 +1,9 @@
 -- After j groups the question is about those that are left.
-use Rattle.partition.specs.Laws.Join.{all-on, all-not, all_end}
 use Rattle.model.specs.Lists.{all}
 use lib.ListN.{take, drop, get_or}
 use lib.Dec.{eqb}
-use mathlib.Core.Path.{◌≡◌, refl}
-use native.Mathlib.Omega.{arith}
+use mathlib.Core.Path.{◌≡◌}
 use Prim.Native.Nat.{◌-◌, ◌≤◌}
-use borrow.Author.Rules.{rules}
 use Rattle.partition.proofs.all_same.Given as goal
 
 abbrev pub invariant-loop-j : goal.invariant-loop-j

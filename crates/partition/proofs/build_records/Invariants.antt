@@ -1,16 +1,12 @@
 -- After i rows the records are those of the first i cells.
 use Rattle.layout.specs.Widths.{id_width, group_width}
-use Rattle.partition.specs.Laws.Records.{turn-asks, count-few, turn-done, all_done}
-use Rattle.partition.specs.Laws.Held.{groups_none}
 use Rattle.partition.specs.Held.{HeldTable, HeldGroups, HeldCounts}
 use Rattle.model.specs.Cells.{Cell}
 use Rattle.model.specs.Groups.{Ids, records}
 use lib.ListN.{length, take}
-use mathlib.Core.Path.{◌≡◌, refl}
+use mathlib.Core.Path.{◌≡◌}
 use mathlib.Core.List.{List}
-use native.Mathlib.Omega.{arith}
 use Prim.Native.Nat.{ℕ, ◌-◌, ◌*◌, ◌≤◌}
-use borrow.Author.Rules.{rules}
 use Rattle.partition.proofs.build_records.Given as goal
 
 abbrev pub invariant-loop-i : goal.invariant-loop-i

@@ -7,11 +7,11 @@ use Rattle.partition.specs.Held.{HeldRows, tried, ids_at}
 use Rattle.model.specs.Groups.{Ids}
 use Rattle.model.specs.Cells.{same}
 use Rattle.model.specs.Lists.{get}
-use lib.ListN.{length, take, drop, get_or, length-set}
+use lib.ListN.{length, get_or, length-set}
 use mathlib.Core.Option.{some}
 use mathlib.Core.Path.{◌≡◌, refl, sym, ap, ◌∙◌}
 use native.Mathlib.Omega.{arith}
-use Prim.Native.Nat.{ℕ, ◌+◌, ◌-◌, ◌*◌, ◌≤◌, ◌<◌}
+use Prim.Native.Nat.{ℕ, ◌+◌, ◌*◌, ◌≤◌, ◌<◌}
 use borrow.Author.Rules.{rules}
 use Rattle.partition.proofs.found_at.Goals as goal
 use Rattle.partition.proofs.found_at.Lts as lts

@@ -1,12 +1,6 @@
 -- After i rows the count is the group's size among the first i.
 use Rattle.partition.specs.Laws.Join.{size-more, size_same, size-all}
-use Rattle.layout.specs.Rows.{ids_in}
-use Rattle.model.specs.Groups.{size}
-use lib.ListN.{take}
-use mathlib.Core.Path.{◌≡◌, refl}
 use native.Mathlib.Omega.{arith}
-use Prim.Native.Nat.{◌-◌, ◌≤◌}
-use borrow.Author.Rules.{rules}
 use Rattle.partition.proofs.group_size.Goals as goal
 
 pub loop-i-preserved-then-ids-i : goal.loop-i-preserved-then-ids-i

@@ -1,12 +1,9 @@
 -- After j groups the question is about those that are left.
-use Rattle.partition.specs.Laws.Join.{has_here, has_on, has_end}
 use Rattle.model.specs.Lists.{has}
 use lib.Dec.{eqb}
 use lib.ListN.{take, drop}
-use mathlib.Core.Path.{◌≡◌, refl}
-use native.Mathlib.Omega.{arith}
+use mathlib.Core.Path.{◌≡◌}
 use Prim.Native.Nat.{◌-◌, ◌≤◌}
-use borrow.Author.Rules.{rules}
 use Rattle.partition.proofs.is_found.Given as goal
 
 abbrev pub invariant-loop-j : goal.invariant-loop-j

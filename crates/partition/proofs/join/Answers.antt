@@ -1,7 +1,6 @@
 -- Where all groups found are the same nothing merges; else all become the largest.
 use Rattle.partition.specs.Laws.Join.{join-same, join-done}
 use mathlib.Core.Path.{sym, ◌∙◌}
-use borrow.Author.Rules.{rules}
 use Rattle.partition.proofs.join.Goals as goal
 
 pub returns-then-all_same : goal.returns-then-all_same

@@ -1,12 +1,7 @@
 -- The best so far with the groups left has the same largest as all.
-use Rattle.partition.specs.Laws.Join.{largest-new, largest-old, largest-end}
+use Rattle.partition.specs.Laws.Join.{largest-old}
 use Rattle.layout.specs.Rows.{ids_in}
-use Rattle.model.specs.Groups.{largest_group}
-use lib.ListN.{take, drop, get_or}
-use mathlib.Core.Path.{◌≡◌, refl}
 use native.Mathlib.Omega.{arith}
-use Prim.Native.Nat.{◌-◌, ◌≤◌}
-use borrow.Author.Rules.{rules}
 use Rattle.partition.proofs.largest.Goals as goal
 
 pub loop-j-preserved : goal.loop-j-preserved

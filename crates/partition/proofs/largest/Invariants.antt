@@ -1,12 +1,9 @@
 -- The best so far with the groups left has the same largest as all.
-use Rattle.partition.specs.Laws.Join.{largest-new, largest-old, largest-end}
 use Rattle.layout.specs.Rows.{ids_in}
 use Rattle.model.specs.Groups.{largest_group}
 use lib.ListN.{take, drop, get_or}
-use mathlib.Core.Path.{◌≡◌, refl}
-use native.Mathlib.Omega.{arith}
+use mathlib.Core.Path.{◌≡◌}
 use Prim.Native.Nat.{◌-◌, ◌≤◌}
-use borrow.Author.Rules.{rules}
 use Rattle.partition.proofs.largest.Given as goal
 
 abbrev pub invariant-loop-j : goal.invariant-loop-j

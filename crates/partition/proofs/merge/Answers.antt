@@ -1,13 +1,7 @@
 -- After i rows the first i are merged and the others as they were.
-use Rattle.layout.specs.Widths.{id_width}
-use Rattle.partition.specs.Laws.Join.{partly, merged, merge-set, merge-same, partly-all}
-use Rattle.partition.specs.Held.{HeldRows}
-use Rattle.model.specs.Groups.{Ids}
-use lib.ListN.{length, take, length-set}
-use mathlib.Core.Path.{◌≡◌, refl}
+use Rattle.partition.specs.Laws.Join.{merge-set, merge-same}
+use lib.ListN.{take, length-set}
 use native.Mathlib.Omega.{arith}
-use Prim.Native.Nat.{◌-◌, ◌*◌, ◌≤◌}
-use borrow.Author.Rules.{rules}
 use Rattle.partition.proofs.merge.Goals as goal
 
 pub loop-i-preserved-then-is_found : goal.loop-i-preserved-then-is_found

@@ -1,13 +1,11 @@
 -- After i rows the first i are merged and the others as they were.
 use Rattle.layout.specs.Widths.{id_width}
-use Rattle.partition.specs.Laws.Join.{partly, merged, merge-set, merge-same, partly-all}
+use Rattle.partition.specs.Laws.Join.{partly, merged}
 use Rattle.partition.specs.Held.{HeldRows}
 use Rattle.model.specs.Groups.{Ids}
-use lib.ListN.{length, take, length-set}
-use mathlib.Core.Path.{◌≡◌, refl}
-use native.Mathlib.Omega.{arith}
+use lib.ListN.{length, take}
+use mathlib.Core.Path.{◌≡◌}
 use Prim.Native.Nat.{◌-◌, ◌*◌, ◌≤◌}
-use borrow.Author.Rules.{rules}
 use Rattle.partition.proofs.merge.Given as goal
 
 abbrev pub invariant-loop-i : goal.invariant-loop-i

@@ -3,7 +3,6 @@ use Rattle.partition.specs.Laws.Ids.{push-asks, push-done}
 use Rattle.partition.specs.Laws.Held.{put-shorter}
 use Rattle.model.proofs.Laws.Orders.{cells}
 use native.Mathlib.Omega.{arith}
-use borrow.Author.Rules.{rules}
 use Rattle.partition.proofs.push.Goals as goal
 
 pub put4-requires : goal.put4-requires

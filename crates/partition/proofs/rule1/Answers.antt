@@ -1,7 +1,6 @@
 -- The cell takes the next id where no group is found, else it joins.
-use Rattle.partition.specs.Laws.Join.{rule1-none, rule1-some}
+use Rattle.partition.specs.Laws.Join.{rule1-some}
 use native.Mathlib.Omega.{arith}
-use borrow.Author.Rules.{rules}
 use Rattle.partition.proofs.rule1.Goals as goal
 
 pub returns : goal.returns

@@ -1,6 +1,5 @@
 -- The rows that stay, with zeros behind them, are the table without the emptied cells.
 use Rattle.partition.specs.Laws.Leave.{sift-all}
-use borrow.Author.Rules.{rules}
 use Rattle.partition.proofs.rule2.Goals as goal
 
 pub returns : goal.returns

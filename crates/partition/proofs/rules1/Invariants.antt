@@ -1,18 +1,13 @@
 -- After i cells the groups are those of rule 1 for the first i.
 use Rattle.layout.specs.Widths.{id_width, net_width}
-use Rattle.partition.specs.Laws.Join.{rules1-more, rules1-all}
-use Rattle.partition.specs.Laws.Held.{cells-ranged}
 use Rattle.partition.specs.Held.{HeldIds, HeldCells}
 use Rattle.model.specs.Groups.{Groups, rule1}
-use Rattle.model.specs.Cells.{Cell, cell_in_range, touch_at}
+use Rattle.model.specs.Cells.{Cell, touch_at}
 use Rattle.model.specs.Lists.{run}
 use lib.ListN.{length, take}
-use lib.Dec.{T}
 use mathlib.Core.List.{List}
-use mathlib.Core.Path.{◌≡◌, refl, sym, subst}
-use native.Mathlib.Omega.{arith}
+use mathlib.Core.Path.{◌≡◌}
 use Prim.Native.Nat.{◌+◌, ◌-◌, ◌*◌, ◌≤◌, ◌<◌}
-use borrow.Author.Rules.{rules}
 use Rattle.partition.proofs.rules1.Given as goal
 
 abbrev pub invariant-loop-i : goal.invariant-loop-i

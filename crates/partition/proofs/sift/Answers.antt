@@ -1,17 +1,10 @@
 -- After i rows those that stay fill the first j, and the words behind them are as they were.
-use Rattle.layout.specs.Widths.{id_width}
-use Rattle.partition.specs.Laws.Leave.{sift-none, sift-drop, sift-keep, sift-back}
+use Rattle.partition.specs.Laws.Leave.{sift-drop, sift-keep, sift-back}
 use Rattle.partition.specs.Laws.Held.{cells-table, cells-keys}
-use Rattle.partition.specs.Held.{HeldRows, HeldCells, Sifted}
-use Rattle.model.specs.Groups.{Ids}
-use Rattle.model.specs.Cells.{Cell, same}
+use Rattle.model.specs.Cells.{same}
 use Rattle.model.specs.Lists.{has}
-use lib.ListN.{length, drop}
-use mathlib.Core.List.{List}
-use mathlib.Core.Path.{◌≡◌, refl, ◌∙◌, subst}
+use mathlib.Core.Path.{◌∙◌}
 use native.Mathlib.Omega.{arith}
-use Prim.Native.Nat.{ℕ, ◌-◌, ◌*◌, ◌≤◌}
-use borrow.Author.Rules.{rules}
 use Rattle.partition.proofs.sift.Goals as goal
 
 pub contains-requires : goal.contains-requires

@@ -23,8 +23,8 @@ use Rattle.model.proofs.Laws.Members.{each_append, each_in, gather_append, keep_
 use Rattle.model.proofs.Laws.Sorted.{Asc, each-asc, count-asc, keep-asc, asc-equal}
 use Rattle.model.proofs.Laws.Tables.{keys-only, asc-mem-at, of-free, free-key}
 use Rattle.layout.specs.Rows.{neighbour_of, number_of}
-use Rattle.layout.specs.Laws.Numbers.{neighbour-at, number-range, neighbour-of-number}
-use Rattle.layout.specs.Laws.Kinds.{kind-touches, touch-near}
+use Rattle.layout.proofs.Laws.Numbers.{neighbour-at, number-range, neighbour-of-number}
+use Rattle.layout.proofs.Laws.Kinds.{kind-touches, touch-near}
 use Rattle.partition.specs.Held.{tried, list_of, ids_at}
 
 count-more : (k n : ℕ) → count k (suc n) ≡ count k n ++ (k + n) ∷ []

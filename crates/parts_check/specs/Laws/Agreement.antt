@@ -14,10 +14,10 @@ use Rattle.model.proofs.Laws.Members.{all-in, all-out, count-in, count-out}
 use Rattle.model.proofs.Laws.Shared.{Shared, shared-in, shared-out, agree-in, agree-out}
 use Rattle.model.specs.Shared.{shared_in}
 use Rattle.model.proofs.Laws.Kinds.{kind-touching}
-use Rattle.neighbourhood.specs.Laws.Lines.{get_d-mem, mem-get_d}
+use Rattle.neighbourhood.proofs.Laws.Lines.{get_d-mem, mem-get_d}
 use Rattle.neighbourhood.specs.Rows.{row_cell}
 use Rattle.neighbourhood.specs.Standing.{Cells, HasTable}
-use Rattle.neighbourhood.specs.Laws.Reads as flooded
+use Rattle.neighbourhood.proofs.Laws.Reads as flooded
 use Rattle.table.specs.Rows.{cell, cell_at, table4}
 use Rattle.table.specs.Laws.Words.{word_at, rest_at}
 use Rattle.layout.specs.Rows.{id_of, ids_in}

@@ -18,8 +18,8 @@ use Rattle.model.proofs.Laws.Walks.{wider, join, back, part-path, part-of-path}
 use Rattle.model.proofs.Laws.Reaching.{flood-part}
 use Rattle.neighbourhood.specs.Rows.{row_cell}
 use Rattle.neighbourhood.specs.Standing.{Cells, open_cells, flood_from, Floodable}
-use Rattle.neighbourhood.specs.Laws.Reads.{row-occupied}
-use Rattle.neighbourhood.specs.Laws.Unmarked.{counted-under, rows-keys, open-once, open_in, open-out}
+use Rattle.neighbourhood.proofs.Laws.Reads.{row-occupied}
+use Rattle.neighbourhood.proofs.Laws.Unmarked.{counted-under, rows-keys, open-once, open_in, open-out}
 use Rattle.parts_check.specs.Parts.{Linked, Labelled}
 
 module _ {kind : ℕ} (words : List ℕ) (n : ℕ) (t : List (Cell × ℕ)) (k : Cells kind words n t) where

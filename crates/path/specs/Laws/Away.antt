@@ -12,7 +12,7 @@ use Rattle.model.proofs.Laws.Kinds.{kind-touching}
 use Rattle.model.proofs.Laws.Steps.{steps-occupied, steps-none, steps-more, steps-less, StepsAway}
 use Rattle.neighbourhood.specs.Rows.{row_cell, row_for, onward}
 use Rattle.neighbourhood.specs.Standing.{Cells, Levels}
-use Rattle.neighbourhood.specs.Laws.Reads.{row-occupied, row-once, row-for, onward-cells, onward-under}
+use Rattle.neighbourhood.proofs.Laws.Reads.{row-occupied, row-once, row-for, onward-cells, onward-under}
 
 module _ {kind : ℕ} (words : List ℕ) (n : ℕ) (t : List (Cell × ℕ)) (k : Cells kind words n t) where
   -- A row that row i leads to has a cell that touches the cell of row i.

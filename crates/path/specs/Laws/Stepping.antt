@@ -7,7 +7,7 @@ use mathlib.Core.List.{List, ◌∷◌}
 use Rattle.model.specs.Lists.{keep}
 use Rattle.model.specs.Masks.{bit}
 use Rattle.neighbourhood.specs.Rows.{row_mask, row_near, row_for, onward_from}
-use Rattle.neighbourhood.specs.Laws.Listing.{onward-all, onward-none, onward-yes, onward-no}
+use Rattle.neighbourhood.proofs.Laws.Listing.{onward-all, onward-none, onward-yes, onward-no}
 use Rattle.path.specs.Walks.{first_row, is_nearer, next_row}
 
 module _ (words : List ℕ) (n : ℕ) (marks : List ℕ) (i : ℕ) where

@@ -24,8 +24,8 @@ use Rattle.model.proofs.Laws.Steps.{steps-occupied, steps-asc, walk-length, join
 use Rattle.model.proofs.Theorems.PathExact.{path-none}
 use Rattle.neighbourhood.specs.Rows.{row_cell, onward}
 use Rattle.neighbourhood.specs.Standing.{Cells, Levels}
-use Rattle.neighbourhood.specs.Laws.Lines.{each_at}
-use Rattle.neighbourhood.specs.Laws.Reads.{onward-cells, onward-under}
+use Rattle.neighbourhood.proofs.Laws.Lines.{each_at}
+use Rattle.neighbourhood.proofs.Laws.Reads.{onward-cells, onward-under}
 use Rattle.path.specs.Walks.{first_row, is_nearer, next_row, row_after, walk_rows, walk_cells, cells_of, shown_rows}
 use Rattle.path.specs.Laws.Away.{onward-touch, touch-onward, mark-steps, steps-mark, mark-away}
 

@@ -18,7 +18,7 @@ use Rattle.table.specs.Laws.Words.{keys_length}
 use Rattle.layout.specs.Widths.{cell_width, id_width}
 use Rattle.layout.specs.Rows.{entities_in, cells_in, ids_in}
 use Rattle.layout.specs.Points.{tidy}
-use Rattle.layout.specs.Laws.Tables.{table-by}
+use Rattle.layout.proofs.Laws.Tables.{table-by}
 use Rattle.points_check.specs.Points.{standing_in, cells_right}
 use Rattle.points_check.specs.Laws.Readings.{cells-keys, ids-keys}
 use Rattle.points_check.specs.Laws.Wanted.{true-false}

@@ -3,8 +3,8 @@ use Rattle.std.specs.Prelude.{ℕ, zero, suc, ◌+◌, ◌*◌, ◌≤◌, ◌<�
 use Rattle.std.proofs.Common.{add-one, arith, sym, ap, ◌∙◌, drop_of_length-le, drop-cons}
 use Rattle.model.specs.Lists.{all, equal, each, count}
 use Rattle.model.proofs.Laws.Members.{each-length, count-length}
-use Rattle.neighbourhood.specs.Laws.Lines.{each-drop}
-use Rattle.neighbourhood.specs.Laws.Listing.{count-there}
+use Rattle.neighbourhood.proofs.Laws.Lines.{each-drop}
+use Rattle.neighbourhood.proofs.Laws.Listing.{count-there}
 use Rattle.table.specs.Rows.{cell_at}
 use Rattle.points_check.specs.Lines.{Lines, cells_at}
 

@@ -10,7 +10,7 @@ use Rattle.model.proofs.Laws.Tests.{T_true, T_false, true_of, false_of, same_tes
 use Rattle.model.proofs.Laws.Orders.{cells, numbers, is-or, differ}
 use Rattle.model.proofs.Laws.Members.{keep_append, keep-shorter, all-in, all-out, has_of, of-has, equal-in, equal-out}
 use Rattle.model.proofs.Laws.Sorted.{asc-equal, ascending-asc, ascending-in, ascending-out}
-use Rattle.neighbourhood.specs.Laws.Lines.{get_d-mem, mem-get_d, asc-index}
+use Rattle.neighbourhood.proofs.Laws.Lines.{get_d-mem, mem-get_d, asc-index}
 use Rattle.table.specs.declared.Place.TheVariants.{Found}
 use Rattle.table.specs.Rows.{cell, cell_at, table4, is_table4, place_of}
 use Rattle.table.specs.Laws.Kinds.{cell-lawful}

@@ -23,8 +23,8 @@ use Rattle.layout.specs.Widths.{id_width, group_width}
 use Rattle.layout.specs.Rows.{groups_image, entities_in, ids_in, groups_in}
 use Rattle.layout.specs.State.{groups_len}
 use Rattle.layout.specs.Points.{tidy}
-use Rattle.layout.specs.Laws.Images.{ids-laws, groups-laws}
-use Rattle.layout.specs.Laws.Lengths.{groups-room}
+use Rattle.layout.proofs.Laws.Images.{ids-laws, groups-laws}
+use Rattle.layout.proofs.Laws.Lengths.{groups-room}
 use Rattle.partition.specs.Held.{HeldTable, HeldGroups, HeldCounts}
 use Rattle.partition.specs.Laws.Records.{records-shorter}
 use Rattle.points_check.specs.Marks.{Counted}

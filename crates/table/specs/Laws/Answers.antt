@@ -1,5 +1,5 @@
 -- What the answer of a search says of a table.
-use Rattle.std.specs.Prelude.{ℕ, suc, ◌≤◌, ◌<◌, ◌≡◌, true, List, [], drop, get_or}
+use Rattle.std.specs.Prelude.{ℕ, suc, ◌<◌, ◌≡◌, true, List, [], drop, get_or}
 use Rattle.std.proofs.Common.{arith, sym, ap, ◌∙◌}
 use Rattle.std.proofs.Math.Option.{none, some}
 use Rattle.model.specs.Lists.{has, keys, get}
@@ -8,7 +8,7 @@ use Rattle.table.specs.declared.Place.TheVariants.{Found, Missing}
 use Rattle.table.specs.Rows.{Kind, rows_of, entry_of, table_of, is_table_of, is_found, place_of}
 use Rattle.table.specs.Laws.Kinds.{Lawful}
 use Rattle.table.specs.Laws.Words.{keys_length, key-at, row_at, entry_at}
-use Rattle.table.specs.Laws.Places.{found_within, missing-within, found-key, found_get, missing-get, found-test}
+use Rattle.table.specs.Laws.Places.{found_within, found-key, found_get, missing-get, found-test}
 use Rattle.table.specs.Laws.Images.{table-facts}
 
 -- A key is found exactly if it is one of the keys.

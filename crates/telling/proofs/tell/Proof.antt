@@ -1,7 +1,7 @@
 -- A row that is written at the first place.
 use mathlib.Core.Path.{◌∙◌}
 use borrow.Author.Rules.{rules}
-use Rattle.telling.specs.Laws.Tells.{over-front}
+use Rattle.telling.proofs.Laws.Tells.{over-front}
 use Rattle.telling.proofs.tell.Statement.{statement}
 use Rattle.telling.proofs.tell.Tie as tie
 

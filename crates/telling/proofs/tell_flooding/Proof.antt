@@ -4,7 +4,7 @@ use borrow.Author.Rules.{rules}
 use Rattle.floods.specs.declared.Flooding.{Flooding}
 use Rattle.floods.specs.Told.{flooding_told}
 use Rattle.telling.specs.Words.{numbered, flooding_words}
-use Rattle.telling.specs.Laws.Tells.{telling-by, telling-so}
+use Rattle.telling.proofs.Laws.Tells.{telling-by, telling-so}
 use Rattle.telling.proofs.tell_flooding.Statement.{statement}
 use Rattle.telling.proofs.tell_flooding.Tie as tie
 

@@ -7,7 +7,7 @@ use borrow.Author.Rules.{rules}
 use Rattle.lookups.specs.declared.GroupOf.{GroupOf}
 use Rattle.lookups.specs.Told.{group_told}
 use Rattle.telling.specs.Words.{axis_word, numbered, group_words}
-use Rattle.telling.specs.Laws.Tells.{telling-by, telling-so}
+use Rattle.telling.proofs.Laws.Tells.{telling-by, telling-so}
 use Rattle.telling.proofs.tell_group.Statement.{statement}
 use Rattle.telling.proofs.tell_group.Tie as tie
 

@@ -4,7 +4,7 @@ use borrow.Author.Rules.{rules}
 use Rattle.lookups.specs.declared.IdOf.{IdOf}
 use Rattle.lookups.specs.Told.{id_told}
 use Rattle.telling.specs.Words.{numbered, number_words}
-use Rattle.telling.specs.Laws.Tells.{telling-by, telling-so}
+use Rattle.telling.proofs.Laws.Tells.{telling-by, telling-so}
 use Rattle.telling.proofs.tell_id.Statement.{statement}
 use Rattle.telling.proofs.tell_id.Tie as tie
 

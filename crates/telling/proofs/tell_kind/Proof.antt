@@ -4,7 +4,7 @@ use borrow.Author.Rules.{rules}
 use Rattle.lookups.specs.declared.KindOf.{KindOf}
 use Rattle.lookups.specs.Told.{kind_told}
 use Rattle.telling.specs.Words.{numbered, kind_words}
-use Rattle.telling.specs.Laws.Tells.{telling-by, telling-so}
+use Rattle.telling.proofs.Laws.Tells.{telling-by, telling-so}
 use Rattle.telling.proofs.tell_kind.Statement.{statement}
 use Rattle.telling.proofs.tell_kind.Tie as tie
 

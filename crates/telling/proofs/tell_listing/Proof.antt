@@ -2,7 +2,7 @@
 use mathlib.Core.Path.{refl}
 use borrow.Author.Rules.{rules}
 use Rattle.lists.specs.declared.Listing.{Listing}
-use Rattle.telling.specs.Laws.Tells.{telling-by, telling-so}
+use Rattle.telling.proofs.Laws.Tells.{telling-by, telling-so}
 use Rattle.lists.specs.Told.{listing_told}
 use Rattle.telling.specs.Words.{numbered, listing_words}
 use Rattle.telling.proofs.tell_listing.Statement.{statement}

@@ -7,7 +7,7 @@ use borrow.Author.Rules.{rules}
 use Rattle.lookups.specs.declared.Where.{Where}
 use Rattle.lookups.specs.Told.{where_told}
 use Rattle.telling.specs.Words.{axis_word, numbered, where_words}
-use Rattle.telling.specs.Laws.Tells.{telling-by, telling-so}
+use Rattle.telling.proofs.Laws.Tells.{telling-by, telling-so}
 use Rattle.telling.proofs.tell_where.Statement.{statement}
 use Rattle.telling.proofs.tell_where.Tie as tie
 

@@ -1,5 +1,5 @@
 -- The two ways to an answer: it is refused, or it is not.
-use Rattle.std.specs.Prelude.{ℕ, ◌≡◌, eqb}
+use Rattle.std.specs.Prelude.{◌≡◌, eqb}
 use Rattle.std.proofs.Common.{sym, ap, ◌∙◌}
 use Rattle.model.proofs.Laws.Tests.{cond_yes, cond_no, eqb_of, neqb-of}
 use Rattle.refusal.specs.declared.Refusal.{Refusal}

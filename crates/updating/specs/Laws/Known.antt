@@ -16,11 +16,11 @@ use Rattle.layout.specs.Rows.{entities_image, cells_image, net_image, ids_image,
 use Rattle.layout.specs.State.{entities_len, cells_len, net_len, ids_len, groups_len, state_len, decode}
 use Rattle.layout.specs.Points.{long_enough, consistent_words}
 use Rattle.layout.specs.Facts.{Fits, BeginsWith}
-use Rattle.layout.specs.Laws.Images.{entities-laws, cells-laws, net-laws, ids-laws, groups-laws}
-use Rattle.layout.specs.Laws.Lengths.{entities-room, cells-room, net-room, ids-room, groups-room}
-use Rattle.layout.specs.Laws.Fitting.{consistent-fits}
-use Rattle.layout.specs.Laws.Standing.{image-stands}
-use Rattle.layout.specs.Theorems.Canonical.{consistent-image}
+use Rattle.layout.proofs.Laws.Images.{entities-laws, cells-laws, net-laws, ids-laws, groups-laws}
+use Rattle.layout.proofs.Laws.Lengths.{entities-room, cells-room, net-room, ids-room, groups-room}
+use Rattle.layout.proofs.Laws.Fitting.{consistent-fits}
+use Rattle.layout.proofs.Laws.Standing.{image-stands}
+use Rattle.layout.proofs.Theorems.Canonical.{consistent-image}
 use Rattle.updating.specs.Known.{Known}
 
 -- Consistent words that are long enough.

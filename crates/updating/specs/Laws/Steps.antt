@@ -25,8 +25,8 @@ use Rattle.table.specs.Moves.{over}
 use Rattle.layout.specs.Widths.{crowd_width}
 use Rattle.layout.specs.Rows.{entities_image, cells_image, ids_image, entities_in, ids_in}
 use Rattle.layout.specs.State.{entities_len, cells_len, net_len, ids_len, groups_len, decode, entity_words, cell_words, id_words, cell_count, id_count, next_id, kind_of}
-use Rattle.layout.specs.Laws.Images.{net-laws, ids-laws}
-use Rattle.layout.specs.Laws.Lengths.{ids-room}
+use Rattle.layout.proofs.Laws.Images.{net-laws, ids-laws}
+use Rattle.layout.proofs.Laws.Lengths.{ids-room}
 use Rattle.map.specs.declared.Counts.{Counts}
 use Rattle.map.specs.Held.{tally, crowd_of}
 use Rattle.map.specs.Laws.Crowd.{crowd-keys}

@@ -10,7 +10,7 @@ use Rattle.model.specs.Groups.{Groups, regroup, records}
 use Rattle.model.specs.Update.{State, touch_of, accepted_by, accepted}
 use Rattle.layout.specs.Widths.{header_len, spare}
 use Rattle.layout.specs.Rows.{entities_image, cells_image, net_image, ids_image, groups_image}
-use Rattle.layout.specs.Laws.Parts.{seven-parts}
+use Rattle.layout.proofs.Laws.Parts.{seven-parts}
 use Rattle.layout.specs.State.{entities_len, cells_len, net_len, ids_len, groups_len, state_len, header, encode, decode, kind_of}
 use Rattle.layout.specs.Facts.{Fits}
 use Rattle.map.specs.declared.Counts.{Counts}

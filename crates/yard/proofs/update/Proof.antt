@@ -1,7 +1,7 @@
 -- `update` meets its contract.
 use native.Mathlib.Omega.{arith}
 use mathlib.Core.Path.{◌∙◌}
-use Rattle.layout.specs.Laws.Cut.{header-fits}
+use Rattle.layout.proofs.Laws.Cut.{header-fits}
 use Rattle.yard.specs.Laws.Answers.{short-answer, batch-fits, wild-answer, state-known, first-answer, early-none, last-answer}
 use borrow.Author.Rules.{rules}
 use Rattle.yard.proofs.update.Statement.{statement}

@@ -15,7 +15,7 @@ use Rattle.layout.specs.State.{decode, next_id}
 use Rattle.layout.specs.Points.{long_enough, first_broken, consistent_words}
 use Rattle.batch.specs.Words.{batch_of, too_short, early}
 use Rattle.batch.specs.Places.{batch_refusal}
-use Rattle.batch.specs.Laws.Places.{placed-plain, early-in-range, early-number}
+use Rattle.batch.proofs.Laws.Places.{placed-plain, early-in-range, early-number}
 use Rattle.updating.specs.Done.{done}
 use Rattle.updating.specs.Known.{Known}
 use Rattle.updating.specs.Laws.Known.{known}

@@ -11,7 +11,7 @@ use Rattle.model.specs.Occupancy.{Occupancy, Event, Batch, start_batch, play, ev
 use Rattle.model.specs.Update.{State, too_many_events, out_of_range, few_ids, too_many_entities, too_many_cells, touch_of, broken_by, refusal_by, update_by, refusal, accepted, update}
 use Rattle.model.proofs.Laws.Tests.{T_true}
 use Rattle.batch.specs.Places.{batch_refusal}
-use Rattle.batch.specs.Laws.Places.{placed-number}
+use Rattle.batch.proofs.Laws.Places.{placed-number}
 
 -- A number that is none of the first five.
 pub record Late (n : ℕ) : Type 0 where

@@ -15,8 +15,8 @@ use Rattle.model.proofs.Theorems.Kinds.{kind-kept, consistent-update-kind}
 use Rattle.layout.specs.Widths.{move_width}
 use Rattle.layout.specs.State.{state_len, encode, decode}
 use Rattle.layout.specs.Points.{long_enough, first_broken, consistent_words}
-use Rattle.layout.specs.Theorems.DecodeEncode.{decode-longer}
-use Rattle.layout.specs.Theorems.Canonical.{consistent-image, image-consistent}
+use Rattle.layout.proofs.Theorems.DecodeEncode.{decode-longer}
+use Rattle.layout.proofs.Theorems.Canonical.{consistent-image, image-consistent}
 use Rattle.batch.specs.Words.{batch_of, too_short}
 use Rattle.batch.specs.Places.{batch_refusal}
 use Rattle.updating.specs.Done.{done}

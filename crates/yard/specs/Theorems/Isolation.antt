@@ -8,7 +8,7 @@ use Rattle.model.specs.Runs.{Alike, SameOn}
 use Rattle.model.proofs.Theorems.Kinds.{isolation-kind}
 use Rattle.model.proofs.Laws.Tests.{T_true, and-fst}
 use Rattle.layout.specs.State.{decode}
-use Rattle.layout.specs.Laws.Orderly.{orderly-out}
+use Rattle.layout.proofs.Laws.Orderly.{orderly-out}
 use Rattle.batch.specs.Words.{batch_of}
 use Rattle.fresh.specs.Answer.{fresh_of}
 use Rattle.fresh.specs.Theorems.{fresh-consistent}

@@ -13,7 +13,7 @@ use Rattle.layout.specs.State.{decode}
 use Rattle.layout.specs.Points.{first_broken, consistent_words}
 use Rattle.batch.specs.Words.{batch_of, too_short}
 use Rattle.batch.specs.Places.{first_out, batch_refusal}
-use Rattle.batch.specs.Theorems.FirstOut.{BadMove, first-out-bad}
+use Rattle.batch.proofs.Theorems.FirstOut.{BadMove, first-out-bad}
 use Rattle.updating.specs.Done.{done}
 use Rattle.yard.specs.Update.{placed_in, update_of}
 use Rattle.yard.specs.Laws.Numbers.{update-not-two, number-stays}

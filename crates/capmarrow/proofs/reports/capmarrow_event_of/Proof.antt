@@ -6,7 +6,7 @@ use Rattle.metres.specs.declared.Answer.{Answer}
 use Rattle.metres.specs.Answer.{answer}
 use Rattle.telling.specs.Words.{telling}
 use Rattle.telling.specs.Reports.{frame_of, report_given, event_told}
-use Rattle.telling.specs.Laws.Tells.{tells-short, tells-long}
+use Rattle.telling.proofs.Laws.Tells.{tells-short, tells-long}
 use Rattle.capmarrow.proofs.reports.capmarrow_event_of.Statement.{statement}
 use Rattle.capmarrow.proofs.reports.capmarrow_event_of.Tie as tie
 

@@ -1,5 +1,5 @@
 -- What equals itself is no NaN, and has bits.
-use Rattle.telling.specs.Laws.Reports.{no_nan, bits-nan, bits-own}
+use Rattle.telling.proofs.Laws.Reports.{no_nan, bits-nan, bits-own}
 use Rattle.telling.proofs.reports.bits.Statement.{statement}
 use Rattle.telling.proofs.reports.bits.Tie as tie
 

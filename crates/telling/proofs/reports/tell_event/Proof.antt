@@ -7,8 +7,8 @@ use Rattle.refusal.specs.declared.Refusal.{Refusal}
 use Rattle.metres.specs.declared.Answer.TheVariants.{Event, NoEvent, Refused}
 use Rattle.moves.specs.Words.{move_words}
 use Rattle.telling.specs.Reports.{event_told}
-use Rattle.telling.specs.Laws.Tells.{over-front, telling-by, telling-so}
-use Rattle.telling.specs.Laws.Reports.{words-between}
+use Rattle.telling.proofs.Laws.Tells.{over-front, telling-by, telling-so}
+use Rattle.telling.proofs.Laws.Reports.{words-between}
 use Rattle.telling.proofs.reports.tell_event.Statement.{statement}
 use Rattle.telling.proofs.reports.tell_event.Tie as tie
 

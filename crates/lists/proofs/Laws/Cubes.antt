@@ -1,0 +1,25 @@
+-- The cube of a cell, in words.
+use Rattle.std.specs.Prelude.{ℕ, ◌≡◌, Bool, cond, List, ◌∷◌, take}
+use Rattle.std.proofs.Common.{sym, ap}
+use Rattle.component.specs.Around.{Above}
+use Rattle.model.specs.Lists.{keep, has, keys, gather}
+use Rattle.model.specs.Cells.{Cell, same, below}
+use Rattle.model.specs.Questions.{cube}
+use Rattle.model.proofs.Laws.Sorted.{Asc}
+use Rattle.table.specs.Moves.{over}
+use Rattle.layout.specs.Widths.{answer_width}
+use Rattle.neighbourhood.specs.Answers.{answer_words}
+use Rattle.neighbourhood.specs.Beside.{beside}
+use Rattle.neighbourhood.proofs.Laws.Cubes.{around-kept}
+use Rattle.lists.specs.Parts.{having}
+
+-- The cube of an occupied centre, and of another, in words.
+pub cube-words : (r : ℕ) (c : Cell) → Above r c → (t : List (Cell × ℕ)) → Asc below (keys t) → (b : Bool) → has same (keys t) c ≡ b
+    → gather answer_words (cond b (c ∷ keep (beside r c) (keys t)) (keep (beside r c) (keys t))) ≡ gather answer_words (cube (having t) c r).list
+cube-words r c a t s b e =
+    (λ i. gather answer_words (cond (sym e i) (c ∷ sym (around-kept r c a (keys t) s) i) (sym (around-kept r c a (keys t) s) i)))
+
+-- The words of a cell that are written first.
+pub first-words : (words words' : List ℕ) (c : Cell) → words' ≡ over words 0 (answer_words c) → take answer_width words' ≡ answer_words c
+unfolding over
+first-words words words' c e = ap (take answer_width) e

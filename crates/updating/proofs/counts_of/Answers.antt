@@ -1,0 +1,24 @@
+-- After i rows the first i numbers are written.
+use Prim.Native.Nat.{◌-◌, ◌*◌, ◌≤◌}
+use native.Mathlib.Omega.{arith}
+use mathlib.Core.Path.{◌≡◌, refl}
+use lib.ListN.{length, take, length-set}
+use Rattle.model.specs.Lists.{values}
+use Rattle.layout.specs.Widths.{crowd_width}
+use Rattle.layout.specs.Rows.{ids_in}
+use Rattle.updating.specs.Laws.Counts.{counts-more, counts_all}
+use borrow.Author.Rules.{rules}
+use Rattle.updating.proofs.counts_of.Goals as goal
+
+pub loop-i-preserved : goal.loop-i-preserved
+loop-i-preserved c =
+    let s = c in
+    let l = c.loop-i in
+    let v = l.invariant in
+    (omega arith, simp length-set v.1, v.2, v.3, counts-more s.args.crowd.now s.args.n l.counts l.i (omega arith) (omega arith) v.4)
+
+pub returns : goal.returns
+returns c =
+    let s = c in
+    let l = c.loop-i in
+    counts_all s.args.crowd.now s.args.n l.counts l.i (omega arith) l.invariant.4

@@ -1,0 +1,18 @@
+-- After i rows the first i numbers are written.
+use Prim.Native.Nat.{◌-◌, ◌*◌, ◌≤◌}
+use native.Mathlib.Omega.{arith}
+use mathlib.Core.Path.{◌≡◌, refl}
+use lib.ListN.{length, take, length-set}
+use Rattle.model.specs.Lists.{values}
+use Rattle.layout.specs.Widths.{crowd_width}
+use Rattle.layout.specs.Rows.{ids_in}
+use Rattle.updating.specs.Laws.Counts.{counts-more, counts_all}
+use borrow.Author.Rules.{rules}
+use Rattle.updating.proofs.counts_of.Given as goal
+
+abbrev pub invariant-loop-i : goal.invariant-loop-i
+invariant-loop-i l =
+    (l.i ≤ l.n) × (length l.counts ≡ length l.initial.counts) × (crowd_width * l.n ≤ length l.crowd) × (l.n ≤ length l.initial.counts) × (take l.i l.counts ≡ values (take l.i (ids_in l.n l.crowd)))
+
+abbrev pub decreases-loop-i : goal.decreases-loop-i
+decreases-loop-i l = l.n - l.i
