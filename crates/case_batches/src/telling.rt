@@ -1,4 +1,4 @@
-// What is found is told to a writer, which is standard output: a line for each heading, and one for each answer that differs.
+// What is found is told to a writer, in `cases` standard output: a line for each heading, and one for each answer that differs.
 use crate::desk::{ALL_ASKED, ALL_DIFFERING, ASKED, DESK_LEN, DIFFERING, LINE, one_more};
 use case_rows::writing::TEXT_LEN;
 use std::io;

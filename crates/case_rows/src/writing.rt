@@ -37,14 +37,11 @@ pub fn put_signed(out: &mut [u8; TEXT_LEN], used: usize, n: u64) -> usize {
     if n < 9223372036854775808 {
         return put_number(out, used, n);
     }
+    let size = std::num::wrapping_sub_u64(0, n);
     let mut digits = Buffer::new();
     let u = put_byte(out, used, b' ');
     let v = put_byte(out, u, b'-');
-    put_text(
-        out,
-        v,
-        digits.format(std::num::wrapping_sub_u64(0, n)).as_bytes(),
-    )
+    put_text(out, v, digits.format(size).as_bytes())
 }
 
 // A refusal is put, its number behind a space: of 2 with the point, of 4 and where else a place is told with the position and the axis.

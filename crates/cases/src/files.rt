@@ -11,7 +11,7 @@ use std::io::{Read, Seek, SeekFrom, Write};
 use std::rt::Files;
 use std::{fs, io};
 
-// The next read begins behind what was played, and so many bytes more; of a file that has no places to go to, behind the last read.
+// The next read begins behind what was played, and so many bytes more; in what has no places to go to, as a pipe, it begins where the last one ended.
 fn go_on<F: Seek>(desk: &mut [u64; DESK_LEN], file: &mut F, n: usize) {
     let played = std::num::wrapping_add_u64(desk[PLAYED], wide(n));
     desk[PLAYED] = played;
@@ -74,7 +74,7 @@ fn play<W: Write, F: Read + Seek>(
     close(out, desk)
 }
 
-// The file that an argument names is played.
+// The file that an argument names is played; nothing is played of one that cannot be opened.
 pub fn play_file<R: Files, W: Write>(
     rt: &R,
     out: &mut W,
@@ -82,6 +82,8 @@ pub fn play_file<R: Files, W: Write>(
     name: &str,
 ) -> io::Result<()> {
     begin_file(out, name.as_bytes())?;
-    let mut file = fs::open(rt, name)?;
-    play(out, desk, &mut file)
+    match fs::open(rt, name) {
+        Ok(mut file) => play(out, desk, &mut file),
+        Err(_) => Ok(()),
+    }
 }

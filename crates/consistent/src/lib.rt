@@ -1,4 +1,6 @@
 // Whether a lent state is consistent, and if not by which point: the points of consistency in their order, 9 first.
+#![tactic(auto)]
+
 ghost use Rattle.std.specs.Prelude.{◌≡◌, true};
 ghost use Rattle.layout.specs.Points.{long_enough, point1, point2, point3, point4, point5, point6, point7, point8, point9, first_broken};
 ghost use Rattle.consistent.specs.Answer.{state_refusal};

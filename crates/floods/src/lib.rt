@@ -1,4 +1,6 @@
 // A flood over the rows of the occupied cells, given in a slice; the state is not known here.
+#![tactic(auto)]
+
 ghost use Rattle.std.specs.Prelude.{◌≡◌, true, ℕ, ◌≤◌, ◌<◌, min, length};
 ghost use Rattle.model.specs.Lists.{has, keys};
 ghost use Rattle.model.specs.Cells.{same, touch_at};

@@ -1,5 +1,5 @@
 -- What `fresh` leaves is a fresh state, and consistent; when it gives 1, 13, 5 and 0; and that it allows one answer only.
-use Rattle.std.specs.Prelude.{ℕ, ◌≡◌, Bool, List, ◌++◌, drop}
+use Rattle.std.specs.Prelude.{ℕ, ◌≡◌, Bool, List, drop}
 use Rattle.std.proofs.Common.{arith, sym, ◌∙◌}
 use Rattle.std.proofs.Math.Path.{refl}
 use Rattle.std.proofs.Math.Bool.{true, false}

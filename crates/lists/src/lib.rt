@@ -1,4 +1,6 @@
 // Lists that are made of the rows of one table, and given in a slice; the state is not known here.
+#![tactic(auto)]
+
 ghost use Rattle.std.specs.Prelude.{◌≡◌, true, ℕ, ◌*◌, ◌≤◌, ◌<◌, length, take};
 ghost use Rattle.component.specs.Range.{cell_in_range};
 ghost use Rattle.model.specs.Lists.{keys};

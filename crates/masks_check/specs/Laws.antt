@@ -1,12 +1,12 @@
 -- The rows one by one, and the mask of the first of them.
-use Rattle.std.specs.Prelude.{ℕ, suc, ◌+◌, ◌-◌, ◌*◌, ◌<◌, ◌≤◌, ◌≡◌, refl, Bool, true, false, cond, List, [], ◌∷◌, ◌++◌, length, take, get_or}
+use Rattle.std.specs.Prelude.{ℕ, ◌+◌, ◌-◌, ◌*◌, ◌<◌, ◌≤◌, ◌≡◌, Bool, true, false, cond, List, [], ◌∷◌, ◌++◌, length, take, get_or}
 use Rattle.std.proofs.Common.{add-one, arith, sym, ap, ◌∙◌, subst, take-suc, take_all, eq-eqb, ne_eqb}
 use Rattle.model.specs.Lists.{keys}
 use Rattle.model.specs.Cells.{Cell, offsets_of, touch_at}
 use Rattle.model.specs.Masks.{with_bit, mask_of}
 use Rattle.model.specs.Places.{slot, place_in}
 use Rattle.model.proofs.Laws.Slots.{slot-low, slot-high, mask_end, mask-none}
-use Rattle.table.specs.Rows.{cell, cell_at, rows_of, table4}
+use Rattle.table.specs.Rows.{cell, cell_at, table4}
 use Rattle.table.specs.Laws.Words.{word_at, rest_at}
 use Rattle.layout.specs.Widths.{cell_mask, cell_width}
 use Rattle.layout.specs.Rows.{id_of, cells_in}

@@ -1,4 +1,6 @@
 // Whether each mask has exactly the bits of the occupied cells that touch at a kind.
+#![tactic(auto)]
+
 ghost use Rattle.std.specs.Prelude.{◌≡◌, true, ◌+◌, ◌-◌, ◌*◌, ◌≤◌, length};
 ghost use Rattle.component.specs.Touch.{touches};
 ghost use Rattle.model.specs.Lists.{all, keys};

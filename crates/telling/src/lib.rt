@@ -1,4 +1,6 @@
 // What the calls for C are given and tell: numbers become cells and depths, and an answer becomes words. No state is known here.
+#![tactic(auto)]
+
 mod reports;
 
 ghost use Rattle.std.specs.Prelude.{◌≡◌, List, ℕ, ◌≤◌, length};

@@ -1,17 +1,12 @@
 -- `play_batch` meets its contract: what is left of the events decides for all.
-use Prim.Native.Nat.{◌+◌, ◌-◌, ◌≤◌}
+use Prim.Native.Nat.{◌+◌}
 use native.Mathlib.Omega.{arith}
-use mathlib.Core.Path.{◌≡◌, refl, sym, ◌∙◌}
-use mathlib.Core.List.{List}
-use lib.ListN.{length}
-use Rattle.model.specs.Cells.{Cell}
-use Rattle.model.specs.Occupancy.{Occupancy, events}
+use mathlib.Core.Path.{refl, sym, ◌∙◌}
+use Rattle.model.specs.Occupancy.{events}
 use Rattle.batch.specs.Words.{batch_of}
 use Rattle.batch_events.specs.Events.{event_at}
-use Rattle.batch_events.specs.Playing.{Ready, Going}
 use Rattle.batch_events.specs.Laws.Events.{events_left, events-start, events-step, events-end, events-fit}
 use Rattle.batch_events.specs.Laws.Going.{going_start, going-at, going-stop, going_next, going_end}
-use borrow.Author.Rules.{rules}
 use Rattle.batch_events.proofs.play_batch.Goals as goal
 
 pub loop-i-init : goal.loop-i-init

@@ -1,5 +1,4 @@
 -- `play_event` meets its contract.
-use native.Mathlib.Omega.{arith}
 use mathlib.Core.Path.{ap, ◌∙◌}
 use lib.ListN.{get_or}
 use Rattle.model.specs.Cells.{cell_in_range}

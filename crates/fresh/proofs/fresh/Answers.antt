@@ -1,8 +1,6 @@
 -- `fresh` meets its contract.
 use native.Mathlib.Omega.{arith}
 use mathlib.Core.Path.{sym, ◌∙◌}
-use borrow.Author.Tests.{not-true, not-false}
-use borrow.Author.Rules.{rules}
 use lib.ListN.{length-set}
 use Rattle.layout.specs.Widths.{next_id_at}
 use Rattle.fresh.specs.Laws.Image.{begun, header-within, fresh-short, fresh-unknown, fresh-late, fresh-done}

@@ -22,7 +22,7 @@ use Rattle.table.specs.Rows.{cell, cell_at, table4}
 use Rattle.table.specs.Laws.Words.{word_at, rest_at}
 use Rattle.layout.specs.Rows.{id_of, ids_in}
 use Rattle.points_check.specs.Lines.{Lines}
-use Rattle.points_check.specs.Laws.Lines.{lines_of, lines_at, lines-as, lines-each}
+use Rattle.points_check.specs.Laws.Lines.{lines_at, lines-as, lines-each}
 use Rattle.points_check.specs.Laws.Readings.{row-lines, key-lines, ids-keys}
 use Rattle.layout.specs.Widths.{cell_width, id_width, cell_id}
 use Rattle.parts_check.specs.Agree.{id_at, agree_at, first_agrees, Partable}

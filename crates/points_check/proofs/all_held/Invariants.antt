@@ -7,13 +7,12 @@ use Rattle.model.specs.Lists.{all, has, keys}
 use Rattle.layout.specs.Widths.{cell_width}
 use Rattle.layout.specs.Rows.{net_in}
 use Rattle.table.specs.Rows.{table4}
-use Rattle.points_check.specs.Laws.Readings.{net-lines}
-use Rattle.points_check.specs.Laws.Lines.{all-no, all-next, all_end}
-use Rattle.points_check.specs.Laws.Wanted.{as_wanted, not-wanted}
 use Prim.Native.Nat.{ℕ, ◌-◌}
-use mathlib.Core.Path.{◌≡◌, refl, sym, ap, ◌∙◌}
-use borrow.Author.Rules.{rules}
+use mathlib.Core.Path.{◌≡◌}
 use Rattle.points_check.proofs.all_held.Given as goal
+
+abbrev pub held : List ℕ → ℕ → Bool → Cell → Bool
+held cells m wanted c = cond wanted (has same (keys (table4 cell_width m cells)) c) (not (has same (keys (table4 cell_width m cells)) c))
 
 abbrev pub invariant-loop-i : goal.invariant-loop-i
 invariant-loop-i l = all (held l.cells l.m l.wanted) (net_in l.n l.net) ≡ all (held l.cells l.m l.wanted) (drop l.i (net_in l.n l.net))

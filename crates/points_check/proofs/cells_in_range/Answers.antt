@@ -1,13 +1,6 @@
-use Prim.Native.Nat.{◌-◌}
-use mathlib.Core.Path.{◌≡◌, refl, sym, ap, ◌∙◌}
-use lib.ListN.{drop}
-use borrow.Author.Tests.{not-true, not-false}
+use mathlib.Core.Path.{sym, ap, ◌∙◌}
 use Rattle.model.specs.Cells.{cell_in_range}
-use Rattle.model.specs.Lists.{all}
-use Rattle.table.specs.Laws.Words.{row_fits}
-use Rattle.points_check.specs.Lines.{cells_at}
 use Rattle.points_check.specs.Laws.Lines.{at-lines, all-no, all-next, all_end}
-use borrow.Author.Rules.{rules}
 use Rattle.points_check.proofs.cells_in_range.Goals as goal
 
 pub returns-then-not-stored_in_range : goal.returns-then-not-stored_in_range

@@ -1,11 +1,6 @@
 -- `cells_right` meets its contract: each way out is one of point 2's.
 use mathlib.Core.Path.{sym, ◌∙◌}
-use borrow.Author.Tests.{not-true, not-false}
-use Rattle.table.specs.Rows.{cell}
-use Rattle.table.specs.Laws.Images.{table-facts}
-use Rattle.layout.specs.Widths.{cell_width, id_width}
 use Rattle.points_check.specs.Laws.Cells.{cells-uncounted, cells-no-table, ids-no-table, cells-differ, cells-stood-in}
-use borrow.Author.Rules.{rules}
 use Rattle.points_check.proofs.cells_right.Goals as goal
 
 pub returns-then-m-k : goal.returns-then-m-k

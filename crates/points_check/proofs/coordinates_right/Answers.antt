@@ -1,14 +1,10 @@
 -- `coordinates_right` meets its contract: three tests of rows.
-use Prim.Native.Nat.{◌*◌, ◌≤◌}
-use native.Mathlib.Omega.{arith}
-use mathlib.Core.Path.{◌≡◌, ap, ◌∙◌}
-use lib.ListN.{length}
+use mathlib.Core.Path.{ap, ◌∙◌}
 use Rattle.model.specs.Lists.{all}
 use Rattle.model.specs.Cells.{cell_in_range}
 use Rattle.layout.specs.Rows.{net_in}
 use Rattle.points_check.specs.Laws.Range.{coordinates-by-tests}
 use Rattle.points_check.specs.Laws.Readings.{entity-cells, net-cells}
-use borrow.Author.Rules.{rules}
 use Rattle.points_check.proofs.coordinates_right.Goals as goal
 
 pub returns : goal.returns

@@ -3,7 +3,6 @@ use mathlib.Core.Bool.{◌&&◌}
 use lib.Dec.{leb}
 use Rattle.model.specs.Update.{most_entities, most_cells}
 use Rattle.points_check.specs.Points.{entities_right}
-use borrow.Author.Rules.{rules}
 use Rattle.points_check.proofs.entities_right.Goals as goal
 
 pub returns : goal.returns

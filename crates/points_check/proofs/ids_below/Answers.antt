@@ -1,13 +1,8 @@
-use Prim.Native.Nat.{◌-◌}
-use mathlib.Core.Path.{◌≡◌, refl, sym, ◌∙◌}
-use lib.ListN.{drop}
+use mathlib.Core.Path.{sym, ◌∙◌}
 use lib.Dec.{ltb}
 use borrow.Author.Tests.{lt-ltb, le-ltb}
-use Rattle.model.specs.Lists.{all, values}
-use Rattle.layout.specs.Rows.{ids_in}
 use Rattle.points_check.specs.Laws.Readings.{id-lines}
 use Rattle.points_check.specs.Laws.Lines.{all-no, all-next, all_end}
-use borrow.Author.Rules.{rules}
 use Rattle.points_check.proofs.ids_below.Goals as goal
 
 pub returns-then-next-ids : goal.returns-then-next-ids

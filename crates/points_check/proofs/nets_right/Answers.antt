@@ -1,11 +1,9 @@
 -- `nets_right` meets its contract: each way out is one of point 8's.
 use mathlib.Core.Path.{sym, ◌∙◌}
-use borrow.Author.Tests.{not-true, not-false}
 use Rattle.table.specs.Rows.{cell}
 use Rattle.table.specs.Laws.Images.{table-facts}
 use Rattle.layout.specs.Widths.{net_width}
 use Rattle.points_check.specs.Laws.Nets.{occupied-no-table, emptied-no-table, nets-by-tests}
-use borrow.Author.Rules.{rules}
 use Rattle.points_check.proofs.nets_right.Goals as goal
 
 pub returns-then-not-is_table4 : goal.returns-then-not-is_table4

@@ -1,10 +1,8 @@
 -- `records_right` meets its contract: each way out is one of point 5's.
 -- The entities of each row are counted.
 -- The records are built.
-use Prim.Native.Nat.{◌≤◌}
 use native.Mathlib.Omega.{arith}
-use mathlib.Core.Path.{◌≡◌, sym, ◌∙◌}
-use lib.ListN.{length}
+use mathlib.Core.Path.{sym, ◌∙◌}
 use Rattle.model.specs.Update.{most_cells}
 use Rattle.model.specs.Groups.{records}
 use Rattle.layout.specs.Rows.{entities_in, ids_in}
@@ -13,7 +11,6 @@ use Rattle.layout.proofs.Laws.Images.{entities-laws}
 use Rattle.partition.specs.Held.{HeldGroups, HeldCounts}
 use Rattle.points_check.specs.Laws.Marks.{cleared}
 use Rattle.points_check.specs.Laws.Records.{held-ids, held-counts, asks-records, records-uncounted, records-by-words}
-use borrow.Author.Rules.{rules}
 use Rattle.points_check.proofs.records_right.Goals as goal
 use Rattle.points_check.proofs.records_right.Lts as lts
 use Rattle.points_check.proofs.records_right.Tie as tie

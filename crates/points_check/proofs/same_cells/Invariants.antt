@@ -1,15 +1,10 @@
 use lib.ListN.{drop}
-use borrow.Author.Tests.{not-true, not-false}
 use Rattle.model.specs.Cells.{same}
 use Rattle.model.specs.Lists.{equal, keys}
 use Rattle.table.specs.Rows.{table4}
 use Rattle.layout.specs.Widths.{cell_width, id_width}
-use Rattle.points_check.specs.Laws.Readings.{key-lines}
-use Rattle.points_check.specs.Laws.Lines.{equal-no, equal_next, equal-end}
 use Prim.Native.Nat.{◌-◌}
-use native.Mathlib.Omega.{arith}
-use mathlib.Core.Path.{◌≡◌, refl, sym, ◌∙◌}
-use borrow.Author.Rules.{rules}
+use mathlib.Core.Path.{◌≡◌}
 use Rattle.points_check.proofs.same_cells.Given as goal
 
 abbrev pub invariant-loop-i : goal.invariant-loop-i

@@ -1,12 +1,8 @@
-use borrow.Author.Tests.{not-true, not-false}
 use Rattle.model.specs.Lists.{values}
 use Rattle.model.specs.Update.{most_cells}
 use Rattle.layout.specs.Rows.{entities_in}
 use Rattle.points_check.specs.Laws.Marks.{cleared, counted-marked, stood-no, stood-yes}
-use Prim.Native.Nat.{◌-◌}
-use native.Mathlib.Omega.{arith}
 use mathlib.Core.Path.{sym, ◌∙◌}
-use borrow.Author.Rules.{rules}
 use Rattle.points_check.proofs.stood_in.Goals as goal
 
 pub count_rows-requires : goal.count_rows-requires

@@ -6,7 +6,7 @@ use Rattle.std.proofs.Math.Bool.{true, false}
 use mathlib.Core.List.{List}
 use borrow.Author.Tests.{leb-true, le-leb}
 use Rattle.component.specs.Laws.Tests.{both}
-use Rattle.model.specs.Lists.{equal, keys, values, ascending, is_ascending}
+use Rattle.model.specs.Lists.{equal, keys, values, is_ascending}
 use Rattle.model.specs.Cells.{Cell, same, below}
 use Rattle.model.specs.Update.{most_cells}
 use Rattle.model.proofs.Laws.Tests.{T_true, true_of}

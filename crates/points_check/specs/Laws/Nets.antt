@@ -1,5 +1,5 @@
 -- What point 8 is computed by.
-use Rattle.std.specs.Prelude.{ℕ, ◌*◌, ◌≤◌, ◌≡◌, Bool, true, false, ◌&&◌, List, leb, length, drop}
+use Rattle.std.specs.Prelude.{ℕ, ◌*◌, ◌≡◌, Bool, true, false, ◌&&◌, List, leb, length, drop}
 use Rattle.std.proofs.Common.{arith, sym, ap, ◌∙◌}
 use Rattle.std.proofs.Math.Bool.{not}
 use Rattle.component.specs.Laws.Tests.{leb-same}

@@ -4,7 +4,6 @@ use Rattle.model.specs.Cells.{touch_at}
 use Rattle.model.specs.Groups.{regroup}
 use Rattle.partition.specs.Laws.Held.{plain}
 use Rattle.regrouping.specs.Laws.{counts-held}
-use borrow.Author.Rules.{rules}
 use Rattle.regrouping.proofs.regroup_and_record.Goals as goal
 
 pub build_records-k-requires : goal.build_records-k-requires

@@ -2,16 +2,14 @@
 -- The length of zeros.
 use Prim.Native.Nat.{ℕ}
 use native.Mathlib.Omega.{arith}
-use mathlib.Core.Path.{◌≡◌, refl, sym, ◌∙◌}
+use mathlib.Core.Path.{◌≡◌, refl, ◌∙◌}
 use lib.ListN.{length, replicate, length-replicate}
 use Rattle.model.specs.Occupancy.{occupied, start_batch}
 use Rattle.layout.specs.State.{decode, next_id}
-use Rattle.layout.proofs.Laws.Cut.{header-fits}
 use Rattle.batch.specs.Words.{batch_of}
 use Rattle.updating.specs.Steps.{entity_space, cell_space, crowd_space, net_space}
 use Rattle.updating.specs.Laws.Steps.{zeros-blank, entities-spare, cells-spare, net-spare, map-ready}
 use Rattle.updating.specs.Laws.Answers.{early-ranged, broken-answer, can-finish, done-answer}
-use borrow.Author.Rules.{rules}
 use Rattle.updating.proofs.apply_batch.Goals as goal
 
 zeros : (n : ℕ) → length (replicate {A = ℕ} n 0) ≡ n

@@ -1,13 +1,10 @@
 -- After i rows the first i numbers are written.
 use Prim.Native.Nat.{◌-◌, ◌*◌, ◌≤◌}
-use native.Mathlib.Omega.{arith}
-use mathlib.Core.Path.{◌≡◌, refl}
-use lib.ListN.{length, take, length-set}
+use mathlib.Core.Path.{◌≡◌}
+use lib.ListN.{length, take}
 use Rattle.model.specs.Lists.{values}
 use Rattle.layout.specs.Widths.{crowd_width}
 use Rattle.layout.specs.Rows.{ids_in}
-use Rattle.updating.specs.Laws.Counts.{counts-more, counts_all}
-use borrow.Author.Rules.{rules}
 use Rattle.updating.proofs.counts_of.Given as goal
 
 abbrev pub invariant-loop-i : goal.invariant-loop-i

@@ -2,17 +2,15 @@
 -- There is room in the zeros.
 use Prim.Native.Nat.{ℕ, ◌≤◌}
 use native.Mathlib.Omega.{arith}
-use mathlib.Core.Path.{◌≡◌, refl, sym, ◌∙◌, ap}
 use lib.ListN.{length, replicate, length-replicate}
 use Rattle.model.specs.Occupancy.{play_batch}
-use Rattle.model.specs.Update.{most_cells, touch_of}
+use Rattle.model.specs.Update.{touch_of}
 use Rattle.layout.specs.State.{decode}
 use Rattle.layout.proofs.Laws.Cut.{whole}
 use Rattle.writing.specs.Parts.{front_words}
 use Rattle.updating.specs.Steps.{id_space, group_space}
-use Rattle.updating.specs.Laws.Steps.{zeros-blank, ids-spare, groups-spare, crowd-fits, finish-regroups}
+use Rattle.updating.specs.Laws.Steps.{zeros-blank, ids-spare, groups-spare, finish-regroups}
 use Rattle.updating.specs.Laws.Writing.{finish-written}
-use borrow.Author.Rules.{rules}
 use Rattle.updating.proofs.finish.Goals as goal
 
 ids-zeros : id_space ≤ length (replicate {A = ℕ} id_space 0)

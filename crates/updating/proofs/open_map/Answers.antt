@@ -5,7 +5,6 @@ use lib.ListN.{length}
 use Rattle.layout.proofs.Laws.Cut.{entities-long, cells-long}
 use Rattle.layout.proofs.Laws.Lengths.{entities-room}
 use Rattle.updating.specs.Laws.Steps.{entities-loaded, cells-loaded, crowd-room, map-opened}
-use borrow.Author.Rules.{rules}
 use Rattle.updating.proofs.open_map.Goals as goal
 
 pub write_row-requires : goal.write_row-requires

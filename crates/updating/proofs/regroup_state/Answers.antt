@@ -3,9 +3,8 @@ use native.Mathlib.Omega.{arith}
 use mathlib.Core.Path.{ap}
 use lib.ListN.{length}
 use Rattle.layout.specs.State.{decode}
-use Rattle.layout.proofs.Laws.Cut.{header-fits, ids-long}
+use Rattle.layout.proofs.Laws.Cut.{ids-long}
 use Rattle.updating.specs.Laws.Steps.{ids-spare, regroup-ready}
-use borrow.Author.Rules.{rules}
 use Rattle.updating.proofs.regroup_state.Goals as goal
 
 pub write_row-requires : goal.write_row-requires

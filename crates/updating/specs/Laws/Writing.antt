@@ -1,5 +1,5 @@
 -- The parts that are written are those of the state after an accepted batch.
-use Rattle.std.specs.Prelude.{ℕ, ◌+◌, ◌-◌, ◌≤◌, ◌≡◌, length, take}
+use Rattle.std.specs.Prelude.{ℕ, ◌-◌, ◌≤◌, ◌≡◌, length, take}
 use Rattle.std.proofs.Math.Path.{ap}
 use Rattle.std.proofs.Common.{◌∙◌, subst}
 use mathlib.Core.List.{List, ◌∷◌, ◌++◌}

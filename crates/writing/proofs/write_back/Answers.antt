@@ -1,6 +1,5 @@
 -- `write_back` meets its contract.
 use native.Mathlib.Omega.{arith}
-use mathlib.Core.Path.{◌∙◌}
 use Rattle.layout.specs.State.{ids_len, groups_len, ids_from, groups_from, state_len}
 use Rattle.writing.specs.Laws.Writing.{back-written}
 use Rattle.writing.proofs.write_back.Goals as goal

@@ -1,6 +1,5 @@
 -- `write_front` meets its contract.
 use native.Mathlib.Omega.{arith}
-use mathlib.Core.Path.{◌∙◌}
 use Rattle.layout.specs.State.{entities_len, cells_len, net_len, entities_from, cells_from, occupied_from, emptied_from, state_len}
 use Rattle.writing.specs.Laws.Writing.{front-written}
 use Rattle.writing.proofs.write_front.Goals as goal
