@@ -1,5 +1,7 @@
 // The questions: what a lent state answers. A state that is too short is refused by 1, one that is not consistent by 2 with its first
 // broken point, a cell out of range by 4 with its position and axis, and an answer longer than the slice for it by 8, in that order.
+#![tactic(auto)]
+
 ghost use Rattle.std.specs.Prelude.{◌≡◌};
 ghost use Rattle.lookups.specs.Told.{kind_told, where_told, id_told, count_told, group_told};
 ghost use Rattle.lists.specs.Told.{listing_told};

@@ -1,7 +1,6 @@
 -- What the test of a state answers: when which number, with which point, and that no other answer is allowed.
 use Rattle.std.specs.Prelude.{ℕ, ◌≡◌, refl, Bool, true, false, cond, not, ◌&&◌, List, eqb}
 use Rattle.std.proofs.Common.{sym, ◌∙◌}
-use Rattle.model.proofs.Laws.Tests.{T_true}
 use Rattle.refusal.specs.declared.Refusal.{Refusal}
 use Rattle.refusal.specs.Forms.{none, too_short, broken}
 use Rattle.layout.specs.Points.{long_enough, first_broken, consistent_words}

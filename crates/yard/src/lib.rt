@@ -1,4 +1,6 @@
 // The calls that make, test and change a state in lent memory: a fresh state, the test of consistency, and the update.
+#![tactic(auto)]
+
 ghost use Rattle.std.specs.Prelude.{◌≡◌};
 ghost use Rattle.yard.specs.Update.{update_of};
 

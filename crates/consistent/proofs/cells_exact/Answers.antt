@@ -4,7 +4,6 @@ use mathlib.Core.Path.{ap, ◌∙◌}
 use lib.ListN.{length}
 use Rattle.points_check.specs.Points.{cells_right}
 use Rattle.consistent.specs.Laws.Points.{asks-cells, point2-is}
-use borrow.Author.Rules.{rules}
 use Rattle.consistent.proofs.cells_exact.Goals as goal
 
 pub cells_right-requires : goal.cells_right-requires

@@ -1,6 +1,5 @@
 -- Too few words, or what the first broken point says.
 use mathlib.Core.Path.{◌∙◌}
-use borrow.Author.Rules.{rules}
 use Rattle.consistent.specs.Laws.Ways.{too-short, unbroken-way, broken-way, short-words, long-words}
 use Rattle.consistent.proofs.consistent.Goals as goal
 

@@ -6,7 +6,6 @@ use Rattle.points_check.specs.Points.{coordinates_right}
 use Rattle.layout.specs.State.{net_len}
 use Rattle.layout.proofs.Laws.Cut.{occupied-long, emptied-long}
 use Rattle.consistent.specs.Laws.Points.{asks-cells, point7-is}
-use borrow.Author.Rules.{rules}
 use Rattle.consistent.proofs.coordinates_in_range.Goals as goal
 
 pub coordinates_right-requires : goal.coordinates_right-requires

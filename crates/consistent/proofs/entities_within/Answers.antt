@@ -2,7 +2,6 @@
 use mathlib.Core.Path.{◌∙◌}
 use Rattle.points_check.specs.Points.{entities_right}
 use Rattle.consistent.specs.Laws.Points.{point1-is}
-use borrow.Author.Rules.{rules}
 use Rattle.consistent.proofs.entities_within.Goals as goal
 
 pub returns : goal.returns

@@ -2,10 +2,8 @@
 -- What is known once each test has passed.
 use mathlib.Core.Path.{◌≡◌, sym, ◌∙◌}
 use mathlib.Core.Bool.{true}
-use borrow.Author.Tests.{not-true, not-false}
 use Rattle.layout.specs.Points.{point1, point2, point3, point4, point5, point6, point7, point8, point9}
 use Rattle.layout.proofs.Laws.Broken.{broken1, broken2, broken3, broken4, broken5, broken6, broken7, broken8, broken9, unbroken}
-use borrow.Author.Rules.{rules}
 use Rattle.consistent.proofs.first_broken.Goals as goal
 use Rattle.consistent.proofs.first_broken.Lts as lts
 use Rattle.consistent.proofs.first_broken.Tie as tie

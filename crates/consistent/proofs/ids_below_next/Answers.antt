@@ -11,7 +11,6 @@ use Rattle.layout.specs.Rows.{ids_in}
 use Rattle.layout.specs.State.{id_words, id_count, next_id}
 use Rattle.layout.proofs.Laws.Cut.{header-fits}
 use Rattle.consistent.specs.Laws.Points.{tables, point6-is}
-use borrow.Author.Rules.{rules}
 use Rattle.consistent.proofs.ids_below_next.Goals as goal
 
 pub bounds-state-6 : goal.bounds-state-6

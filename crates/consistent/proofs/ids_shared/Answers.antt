@@ -13,7 +13,6 @@ use Rattle.layout.specs.Rows.{cells_in, ids_in}
 use Rattle.layout.specs.State.{cell_words, cell_count, kind_of}
 use Rattle.neighbourhood.specs.Standing.{Cells, HasTable}
 use Rattle.consistent.specs.Laws.Points.{asks-parts, cells-at-kind, point4-is}
-use borrow.Author.Rules.{rules}
 use Rattle.consistent.proofs.ids_shared.Goals as goal
 
 pub parts_right-requires : goal.parts_right-requires

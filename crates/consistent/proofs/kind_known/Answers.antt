@@ -3,7 +3,6 @@ use native.Mathlib.Omega.{arith}
 use mathlib.Core.Path.{◌∙◌}
 use Rattle.layout.proofs.Laws.Cut.{header-fits}
 use Rattle.consistent.specs.Laws.Points.{point9-is}
-use borrow.Author.Rules.{rules}
 use Rattle.consistent.proofs.kind_known.Goals as goal
 
 pub bounds-state-7 : goal.bounds-state-7

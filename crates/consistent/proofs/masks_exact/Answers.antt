@@ -9,7 +9,6 @@ use Rattle.layout.specs.State.{kind_of}
 use Rattle.layout.proofs.Laws.Cut.{header-fits}
 use Rattle.masks_check.specs.Rows.{row_right}
 use Rattle.consistent.specs.Laws.Points.{tables, point3-is}
-use borrow.Author.Rules.{rules}
 use Rattle.consistent.proofs.masks_exact.Goals as goal
 
 pub bounds-state-7 : goal.bounds-state-7

@@ -7,7 +7,6 @@ use Rattle.points_check.specs.Points.{nets_right}
 use Rattle.layout.specs.State.{net_len}
 use Rattle.layout.proofs.Laws.Cut.{occupied-long, emptied-long}
 use Rattle.consistent.specs.Laws.Points.{tables, point8-is}
-use borrow.Author.Rules.{rules}
 use Rattle.consistent.proofs.nets_in_order.Goals as goal
 
 pub nets_right-requires : goal.nets_right-requires

@@ -1,18 +1,15 @@
 -- Point 5, over the words of the entities, of the cells with an id and of the groups.
-use Prim.Native.Nat.{ℕ, ◌*◌, ◌≤◌}
 use native.Mathlib.Omega.{arith}
-use mathlib.Core.Path.{ap, ◌∙◌, subst₂}
-use mathlib.Core.List.{List}
+use mathlib.Core.Path.{ap, ◌∙◌}
 use lib.ListN.{length}
 use Rattle.model.specs.Lists.{all, has, keys, values}
 use Rattle.model.specs.Cells.{same}
 use Rattle.table.specs.Rows.{table4, is_table4}
-use Rattle.layout.specs.Widths.{entity_width, id_width}
+use Rattle.layout.specs.Widths.{id_width}
 use Rattle.layout.specs.Rows.{entities_in}
 use Rattle.layout.proofs.Laws.Cut.{groups-long}
 use Rattle.points_check.specs.Points.{records_right}
 use Rattle.consistent.specs.Laws.Points.{tables, all-with-id, entities-there, point5-is}
-use borrow.Author.Rules.{rules}
 use Rattle.consistent.proofs.records_exact.Goals as goal
 
 pub records_right-requires : goal.records_right-requires

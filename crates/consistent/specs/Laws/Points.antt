@@ -20,7 +20,7 @@ use Rattle.table.specs.Laws.Words.{keys_length}
 use Rattle.table.specs.Laws.Images.{table-facts}
 use Rattle.layout.specs.Widths.{entity_width, cell_width, id_width}
 use Rattle.layout.specs.Rows.{entities_in, cells_in, ids_in}
-use Rattle.layout.specs.State.{entities_len, cells_len, ids_len, decode, spare_words, entity_words, cell_words, occupied_words, emptied_words, id_words, group_words, entity_count, cell_count, occupied_count, emptied_count, id_count, group_count, next_id, kind_of}
+use Rattle.layout.specs.State.{entities_len, decode, spare_words, entity_words, cell_words, occupied_words, emptied_words, id_words, group_words, entity_count, cell_count, occupied_count, emptied_count, id_count, group_count, next_id, kind_of}
 use Rattle.layout.specs.Points.{tidy, long_enough, point1, point2, point3, point4, point5, point6, point7, point8, point9}
 use Rattle.layout.proofs.Laws.Images.{entities-laws, cells-laws}
 use Rattle.layout.proofs.Laws.Lengths.{entities-room, cells-room, ids-room}
