@@ -1,23 +1,23 @@
 -- What consistent words hold: their tables, as the functions that read them ask.
 use Prim.Native.Nat.{ℕ, ◌*◌, ◌≤◌}
-use Rattle.std.proofs.Common.{arith, sym, ap, ◌∙◌, subst, subst₂, take-append-drop, leb-true, le-leb}
-use Rattle.std.specs.Prelude.{◌≡◌, true, ◌&&◌, List, ◌++◌, leb, ltb, length, drop}
+use Rattle.std.proofs.Common.{arith, sym, ap, ◌∙◌, subst, subst₂, take-append-drop, leb-true}
+use Rattle.std.specs.Prelude.{◌≡◌, true, List, ◌++◌, leb, ltb, length, drop}
 use Rattle.std.proofs.Math.Path.{refl}
 use Rattle.component.specs.Laws.Tests.{both}
-use Rattle.model.specs.Lists.{keys, values, is_ascending}
+use Rattle.model.specs.Lists.{keys, values}
 use Rattle.model.specs.Cells.{Cell, below}
-use Rattle.model.specs.Groups.{Group, records}
+use Rattle.model.specs.Groups.{Group}
 use Rattle.model.specs.Update.{most_entities, most_cells, touch_of}
 use Rattle.model.specs.Consistent.{consistent_by, kind_known}
-use Rattle.model.proofs.Laws.Tests.{T_true, true_of, and-snd}
+use Rattle.model.proofs.Laws.Tests.{T_true, and-snd}
 use Rattle.model.proofs.Laws.Orders.{numbers}
 use Rattle.model.proofs.Laws.Members.{each-each}
-use Rattle.model.proofs.Laws.Sorted.{Asc, is_ascending-in, ascending-asc}
+use Rattle.model.proofs.Laws.Sorted.{Asc, ascending-asc}
 use Rattle.model.proofs.Laws.Records.{records-keys}
 use Rattle.model.proofs.Laws.Occupied.{occupied-asc}
 use Rattle.model.proofs.Laws.Kinds.{kind-touching}
 use Rattle.model.proofs.Laws.Consistency.{Ok, ok_out, ids-asc}
-use Rattle.table.specs.Rows.{Kind, number, cell, table_of, is_table_of, is_table1, is_table4, table1, table4, are_zero}
+use Rattle.table.specs.Rows.{number, cell, is_table1, is_table4, table1, table4, are_zero}
 use Rattle.layout.specs.Widths.{entity_width, cell_width, net_width, id_width, group_width}
 use Rattle.layout.specs.Rows.{entity_of, id_of, group_of, cells_image, entities_in, cells_in, ids_in, groups_in}
 use Rattle.layout.specs.State.{state_len, decode, entity_words, cell_words, occupied_words, emptied_words, id_words, group_words, entity_count, cell_count, occupied_count, emptied_count, id_count, group_count}

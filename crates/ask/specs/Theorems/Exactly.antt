@@ -1,5 +1,5 @@
 -- For each question: its number is given exactly when document 01's table says so.
-use Rattle.std.specs.Prelude.{ℕ, refl, true, false, cond, not, ◌&&◌, List, ◌++◌, eqb, length, drop}
+use Rattle.std.specs.Prelude.{ℕ, refl, true, false, cond, ◌&&◌, List, ◌++◌, eqb, length, drop}
 use Rattle.std.proofs.Math.Bool.{Bool}
 use Rattle.std.proofs.Math.Option.{Option, none, some}
 use Rattle.std.proofs.Math.Dec.{ltb}

@@ -1,6 +1,6 @@
 -- Where a refused question says that the fault is: with 2 the first broken point, with 4 the first cell that is out of range and its
 -- first axis that is, with any other number nothing.
-use Rattle.std.specs.Prelude.{ℕ, ◌≡◌, not, List, [], ◌∷◌, eqb}
+use Rattle.std.specs.Prelude.{ℕ, ◌≡◌, List, [], ◌∷◌, eqb}
 use Rattle.std.proofs.Common.{arith, sym, ap, subst}
 use Rattle.std.proofs.Math.Path.{refl}
 use Rattle.std.proofs.Math.Bool.{Bool, true, false, cond}
@@ -14,7 +14,7 @@ use Rattle.refusal.specs.Forms.{none, out_of_range}
 use Rattle.layout.specs.Points.{long_enough, consistent_words, first_broken}
 use Rattle.consistent.specs.Answer.{state_refusal}
 use Rattle.ask.specs.Answers.{cell_refusal, cells_refusal}
-use Rattle.ask.specs.Laws.Told.{by_state, by-cell}
+use Rattle.ask.specs.Laws.Told.{by-cell}
 
 -- The place of a refusal by its number: a point with 2, a position and an axis with 4.
 pub record Placed (r : Refusal) (point at axis : ℕ) : Type 0 where
