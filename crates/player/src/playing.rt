@@ -114,7 +114,7 @@ fn turn<R: Read, W: Write>(
 }
 
 // All batches are read and answered. The turns are counted down from a number that no input uses up, so the loop is seen to end.
-// After an error in reading the answers to the batches before it are written; after one in writing some may not be.
+// After an error in reading the answers to the batches that were played are written; after one in writing some may not be.
 fn play_all<R: Read, W: Write>(
     from: &mut R,
     to: &mut W,
