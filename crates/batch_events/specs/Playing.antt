@@ -4,9 +4,7 @@ use Rattle.model.specs.Lists.{run}
 use Rattle.model.specs.Cells.{Cell, below, touch_at}
 use Rattle.model.specs.Occupancy.{Occupancy, Event, play}
 use Rattle.model.specs.Update.{most_entities, most_cells, broken_by}
-use Rattle.model.proofs.Laws.Sorted.{Asc}
-use Rattle.model.proofs.Laws.Net.{Net}
-use Rattle.model.proofs.Laws.Accepted.{Within}
+use Rattle.model.specs.Facts.{Asc, Net, Within}
 use Rattle.layout.specs.Widths.{entity_width, cell_width, net_width, crowd_width}
 use Rattle.map.specs.declared.Counts.{Counts}
 use Rattle.map.specs.Held.{Held}

@@ -11,7 +11,7 @@ use Rattle.model.specs.Cells.{Cell, same, touch_at}
 use Rattle.model.specs.Occupancy.{Occupancy, occupied, stands_in, with_entities, close_cell, enter, leave}
 use Rattle.model.proofs.Laws.Orders.{numbers}
 use Rattle.model.proofs.Laws.Members.{each-length, keep-shorter}
-use Rattle.model.proofs.Laws.Sorted.{Asc}
+use Rattle.model.specs.Facts.{Asc}
 use Rattle.model.proofs.Laws.Tables.{keys_length, free_of, get-drop-self, put-length-new, put-length-old, drop-length}
 use Rattle.model.proofs.Laws.Occupied.{occupied-leave}
 use Rattle.layout.specs.Widths.{entity_width}

@@ -13,7 +13,7 @@ use Rattle.model.specs.Occupancy.{Occupancy, occupied, stands_in, with_entities,
 use Rattle.model.specs.Crowd.{how_many}
 use Rattle.model.proofs.Laws.Tests.{T_false, true_of, false_of, nltb-of}
 use Rattle.model.proofs.Laws.Members.{each-length}
-use Rattle.model.proofs.Laws.Sorted.{Asc}
+use Rattle.model.specs.Facts.{Asc}
 use Rattle.model.proofs.Laws.Tables.{keys_length}
 use Rattle.model.proofs.Laws.Occupied.{not-occupied, at-occupied, occupied-asc}
 use Rattle.layout.specs.Widths.{crowd_width}

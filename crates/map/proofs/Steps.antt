@@ -9,12 +9,13 @@ use lib.ListN.{length, take, drop, get_or, set, length-append, length-drop}
 use lib.Seq.{length-take-le, take-suc, take-take, take-add, take_at, drop_at, get_or-take, get_or-drop, append_snoc, set_split}
 use Rattle.component.specs.Order.{same, below}
 use Rattle.component.specs.declared.Cell.{Cell}
+use Rattle.model.specs.Facts.{At}
 use Rattle.model.specs.Lists.{has, each, keys, put, drop_key, change}
 use Rattle.model.specs.Masks.{with_bit, without_bit}
 use Rattle.model.proofs.Laws.Tests.{T_true}
 use Rattle.model.proofs.Laws.Orders.{cells}
 use Rattle.model.proofs.Laws.Members.{of-hasnt, each-length}
-use Rattle.model.proofs.Laws.Tables.{At, free_of, key-free, drop-free, asc-fair, free-key}
+use Rattle.model.proofs.Laws.Tables.{free_of, key-free, drop-free, asc-fair, free-key}
 use Rattle.table.specs.declared.Place.TheVariants.{Found, Missing}
 use Rattle.table.specs.Moves.{over}
 use Rattle.table.specs.Rows.{cell, cell_at, table4, stored4, is_table4, place_of}

@@ -6,10 +6,7 @@ use Rattle.model.specs.Lists.{ascending, values}
 use Rattle.model.specs.Cells.{Cell, below, cell_in_range, touch_at}
 use Rattle.model.specs.Crowd.{how_many, tallied}
 use Rattle.model.specs.Occupancy.{Occupancy, occupied, remove, move_to, play}
-use Rattle.model.proofs.Laws.Sorted.{Asc}
-use Rattle.model.proofs.Laws.Tables.{At, Free}
-use Rattle.model.proofs.Laws.Occupied.{Sound}
-use Rattle.model.proofs.Laws.Net.{Inside}
+use Rattle.model.specs.Facts.{Asc, At, Free, Sound, Inside}
 use Rattle.layout.specs.Widths.{cell_width, crowd_width, entity_width, net_width}
 use Rattle.layout.specs.Rows.{entities_image, cells_image, net_image, ids_image}
 use Rattle.map.specs.declared.Counts.{Counts}

@@ -14,3 +14,4 @@ pub mod Runs
 pub mod Counted
 pub mod Crowd
 pub mod Shared
+pub mod Facts

@@ -5,7 +5,7 @@ use Rattle.model.specs.Lists.{has, each, keep, keys, count}
 use Rattle.model.specs.Cells.{Cell, same, below, touch_at}
 use Rattle.model.specs.Masks.{touching, masked}
 use Rattle.model.specs.Flood.{visit, within_depth}
-use Rattle.model.proofs.Laws.Sorted.{Asc}
+use Rattle.model.specs.Facts.{Asc}
 use Rattle.layout.specs.Widths.{cell_width}
 use Rattle.layout.specs.Rows.{cells_image}
 use Rattle.neighbourhood.specs.Rows.{row_cell, onward}

@@ -6,7 +6,7 @@ use Rattle.model.specs.Lists.{each, keep, gather, count, keys, get, put, has, on
 use Rattle.model.specs.Cells.{Cell, same, below, cell_in_range, touch_at}
 use Rattle.model.specs.Groups.{Ids, Groups, Group, corner_at, lower, higher, largest_group, merge}
 use Rattle.model.specs.Crowd.{how_many}
-use Rattle.model.proofs.Laws.Sorted.{Asc}
+use Rattle.model.specs.Facts.{Asc}
 use Rattle.component.specs.Stored.{stored_by_axis}
 use Rattle.table.specs.Rows.{cell, cell_at, row_of}
 use Rattle.layout.specs.Widths.{id_width, cell_id, net_width, group_width, group_grid, group_cells, group_entities, group_low, group_high}

@@ -2,7 +2,7 @@
 use Rattle.std.specs.Prelude.{ℕ, ◌≡◌, true, List, T}
 use Rattle.model.specs.Update.{touch_of}
 use Rattle.model.specs.Consistent.{kind_known}
-use Rattle.model.proofs.Laws.Consistency.{Ok}
+use Rattle.model.specs.Facts.{Ok}
 use Rattle.layout.specs.State.{decode}
 use Rattle.layout.specs.Points.{long_enough}
 use Rattle.layout.specs.Facts.{Fits, BeginsWith}

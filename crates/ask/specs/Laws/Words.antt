@@ -4,6 +4,7 @@ use Rattle.std.proofs.Common.{arith, sym, ap, ◌∙◌, subst, subst₂, take-a
 use Rattle.std.specs.Prelude.{◌≡◌, true, List, ◌++◌, leb, ltb, length, drop}
 use Rattle.std.proofs.Math.Path.{refl}
 use Rattle.component.specs.Laws.Tests.{both}
+use Rattle.model.specs.Facts.{Asc, Ok}
 use Rattle.model.specs.Lists.{keys, values}
 use Rattle.model.specs.Cells.{Cell, below}
 use Rattle.model.specs.Groups.{Group}
@@ -12,11 +13,11 @@ use Rattle.model.specs.Consistent.{consistent_by, kind_known}
 use Rattle.model.proofs.Laws.Tests.{T_true, and-snd}
 use Rattle.model.proofs.Laws.Orders.{numbers}
 use Rattle.model.proofs.Laws.Members.{each-each}
-use Rattle.model.proofs.Laws.Sorted.{Asc, ascending-asc}
+use Rattle.model.proofs.Laws.Sorted.{ascending-asc}
 use Rattle.model.proofs.Laws.Records.{records-keys}
 use Rattle.model.proofs.Laws.Occupied.{occupied-asc}
 use Rattle.model.proofs.Laws.Kinds.{kind-touching}
-use Rattle.model.proofs.Laws.Consistency.{Ok, ok_out, ids-asc}
+use Rattle.model.proofs.Laws.Consistency.{ok_out, ids-asc}
 use Rattle.table.specs.Rows.{number, cell, is_table1, is_table4, table1, table4, are_zero}
 use Rattle.layout.specs.Widths.{entity_width, cell_width, net_width, id_width, group_width}
 use Rattle.layout.specs.Rows.{entity_of, id_of, group_of, cells_image, entities_in, cells_in, ids_in, groups_in}

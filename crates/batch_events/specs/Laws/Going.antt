@@ -8,10 +8,10 @@ use Rattle.model.specs.Cells.{Cell, same, below, touch_at}
 use Rattle.model.specs.Occupancy.{Occupancy, Event, occupied, play}
 use Rattle.model.specs.Update.{most_entities, most_cells, too_many_entities, too_many_cells, broken_by}
 use Rattle.model.proofs.Laws.Members.{keep-shorter}
-use Rattle.model.proofs.Laws.Sorted.{Asc}
+use Rattle.model.specs.Facts.{Asc, Sound, Net}
 use Rattle.model.proofs.Laws.Tables.{keys_length}
-use Rattle.model.proofs.Laws.Occupied.{Sound, pass-sound, events-keep}
-use Rattle.model.proofs.Laws.Net.{Net, pass-net}
+use Rattle.model.proofs.Laws.Occupied.{pass-sound, events-keep}
+use Rattle.model.proofs.Laws.Net.{pass-net}
 use Rattle.map.specs.declared.Counts.{Counts}
 use Rattle.map.specs.Held.{Held, RoomToEnter, RoomToLeave}
 use Rattle.batch_events.specs.declared.Played.{Played}

@@ -5,6 +5,7 @@ use Rattle.std.proofs.Math.Path.{refl, ap}
 use mathlib.Core.List.{List, Memᴰ as Mem}
 use borrow.Author.Tests.{leb-true, le-leb}
 use Rattle.component.specs.Laws.Tests.{both}
+use Rattle.model.specs.Facts.{Asc}
 use Rattle.model.specs.Lists.{all, has, keys, values, is_ascending}
 use Rattle.model.specs.Cells.{Cell, same, below, is_kind, touch_at}
 use Rattle.model.specs.Masks.{mask_of, masked}
@@ -12,7 +13,7 @@ use Rattle.model.specs.Update.{most_entities, most_cells}
 use Rattle.model.proofs.Laws.Tests.{T_true, true_of}
 use Rattle.model.proofs.Laws.Orders.{cells}
 use Rattle.model.proofs.Laws.Members.{all-in, all-out, has_of}
-use Rattle.model.proofs.Laws.Sorted.{Asc, ascending-in}
+use Rattle.model.proofs.Laws.Sorted.{ascending-in}
 use Rattle.model.proofs.Laws.Masks.{rows-of-keys}
 use Rattle.model.specs.Shared.{shared_in}
 use Rattle.table.specs.Rows.{cell, are_zero, table1, table4, is_table1, is_table4, is_table_of}

@@ -4,6 +4,7 @@ use Rattle.std.proofs.Common.{arith, ap, subst}
 use mathlib.Core.List.{List, Memᴰ as Mem}
 use Rattle.component.specs.Adjacent.{has_room}
 use Rattle.component.specs.Laws.Adjacent.{range-room}
+use Rattle.model.specs.Facts.{Ok}
 use Rattle.model.specs.Lists.{values, ascending}
 use Rattle.model.specs.Cells.{Cell, below, cell_in_range}
 use Rattle.model.specs.Occupancy.{occupied}
@@ -17,7 +18,7 @@ use Rattle.model.proofs.Laws.Sorted.{ascending-length, ascending-out}
 use Rattle.model.proofs.Laws.Tables.{keys_length}
 use Rattle.model.proofs.Laws.Records.{records-keys}
 use Rattle.model.proofs.Laws.Kinds.{kind-touching}
-use Rattle.model.proofs.Laws.Consistency.{Ok, ok_out}
+use Rattle.model.proofs.Laws.Consistency.{ok_out}
 use Rattle.layout.specs.Facts.{Fits}
 
 -- There are no more group records than cells with an id.

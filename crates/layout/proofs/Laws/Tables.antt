@@ -2,9 +2,10 @@
 use Rattle.std.specs.Prelude.{ℕ, ◌*◌, ◌≤◌, ◌≡◌, true, ◌&&◌, List, leb, length, drop}
 use Rattle.std.proofs.Common.{leb-true, le-leb}
 use Rattle.component.specs.Laws.Tests.{both}
+use Rattle.model.specs.Facts.{Asc}
 use Rattle.model.specs.Lists.{keys, is_ascending}
 use Rattle.model.proofs.Laws.Tests.{true_of}
-use Rattle.model.proofs.Laws.Sorted.{Asc, is_ascending-in}
+use Rattle.model.proofs.Laws.Sorted.{is_ascending-in}
 use Rattle.table.specs.Rows.{Kind, table_of, is_table_of, are_zero}
 use Rattle.layout.specs.Points.{tidy}
 

@@ -5,7 +5,7 @@ use Rattle.component.specs.Around.{Above}
 use Rattle.model.specs.Lists.{keep, has, keys, gather}
 use Rattle.model.specs.Cells.{Cell, same, below}
 use Rattle.model.specs.Questions.{cube}
-use Rattle.model.proofs.Laws.Sorted.{Asc}
+use Rattle.model.specs.Facts.{Asc}
 use Rattle.table.specs.Moves.{over}
 use Rattle.layout.specs.Widths.{answer_width}
 use Rattle.neighbourhood.specs.Answers.{answer_words}

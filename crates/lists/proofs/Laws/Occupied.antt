@@ -12,7 +12,7 @@ use Rattle.model.specs.Questions.{nearby_by}
 use Rattle.model.proofs.Laws.Tests.{true_of, false_of}
 use Rattle.model.proofs.Laws.Orders.{cells}
 use Rattle.model.proofs.Laws.Members.{keep-shorter, each-length, count-length, has_of, hasnt-of}
-use Rattle.model.proofs.Laws.Sorted.{Asc}
+use Rattle.model.specs.Facts.{Asc}
 use Rattle.table.specs.declared.Place.{Place}
 use Rattle.table.specs.declared.Place.TheVariants.{Found, Missing}
 use Rattle.table.specs.Rows.{cell, placed, place_of, table4}

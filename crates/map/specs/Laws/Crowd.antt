@@ -11,6 +11,7 @@ use mathlib.Core.List.{List, [], ◌∷◌, Memᴰ as Mem}
 use Rattle.std.proofs.Math.Option.{Option, none, some}
 use Rattle.std.proofs.Math.Dec.{ltb}
 use Rattle.std.proofs.Math.ListN.{length}
+use Rattle.model.specs.Facts.{Asc, At, Free, Sound}
 use Rattle.model.specs.Lists.{keep, any, has, add, without, each, keys, get, put, drop_key}
 use Rattle.model.specs.Cells.{Cell, same, below}
 use Rattle.model.specs.Occupancy.{Occupancy, occupied, stands_in, enter, leave}
@@ -18,9 +19,9 @@ use Rattle.model.specs.Crowd.{how_many, tallied}
 use Rattle.model.proofs.Laws.Tests.{cond_yes, cond_no, T_true, T_false, true_of, false_of, nltb-of}
 use Rattle.model.proofs.Laws.Orders.{Ordered, numbers, cells, same_of, differ, is-or}
 use Rattle.model.proofs.Laws.Members.{keep-each, keep-shorter, each_in, each-out, each-ext, each-each, each_same, keep_out, has_of, of-has}
-use Rattle.model.proofs.Laws.Sorted.{Asc, add-out, add-in, add-self, add-asc, add-old}
-use Rattle.model.proofs.Laws.Tables.{At, Free, asc-mem-at, key-at, key-free, free-key, of-free, get-put-self, get-put-other, get-drop-other, get-drop-self, free_of, put-asc, drop-asc, put-old, mem-put-out, put_self, put_in, table-equal, table_same}
-use Rattle.model.proofs.Laws.Occupied.{Sound, occupied-asc, occupied-enter, occupied-leave, occupied-stands, at-occupied}
+use Rattle.model.proofs.Laws.Sorted.{add-out, add-in, add-self, add-asc, add-old}
+use Rattle.model.proofs.Laws.Tables.{asc-mem-at, key-at, key-free, free-key, of-free, get-put-self, get-put-other, get-drop-other, get-drop-self, free_of, put-asc, drop-asc, put-old, mem-put-out, put_self, put_in, table-equal, table_same}
+use Rattle.model.proofs.Laws.Occupied.{occupied-asc, occupied-enter, occupied-leave, occupied-stands, at-occupied}
 use Rattle.layout.specs.Rows.{id_row}
 use Rattle.map.specs.Held.{tally, crowd_of, counted}
 use Rattle.map.specs.Laws.Each.{under, get-each}

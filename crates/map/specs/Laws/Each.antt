@@ -3,10 +3,11 @@ use Rattle.std.specs.Prelude.{ℕ, ◌*◌, ◌≤◌, ◌≡◌, refl, Bool, tr
 use Rattle.std.proofs.Common.{sym, ap, ◌∙◌}
 use mathlib.Core.List.{List, [], ◌∷◌, Memᴰ as Mem}
 use Rattle.std.proofs.Math.Option.{Option, none, some}
+use Rattle.model.specs.Facts.{Asc}
 use Rattle.model.specs.Lists.{each, keys, get, put, drop_key, change, is_ascending}
 use Rattle.model.proofs.Laws.Tests.{true_of}
 use Rattle.model.proofs.Laws.Members.{keep-each, each-each, each-ext}
-use Rattle.model.proofs.Laws.Sorted.{Asc, is_ascending-in}
+use Rattle.model.proofs.Laws.Sorted.{is_ascending-in}
 use Rattle.table.specs.Rows.{Kind, table_of, image_of, are_wide, is_table_of}
 use Rattle.table.specs.Laws.Kinds.{Lawful}
 use Rattle.table.specs.Laws.Words.{table-length}

@@ -8,10 +8,10 @@ use Rattle.model.specs.Occupancy.{Occupancy, occupied, stands_in, with_entities,
 use Rattle.model.proofs.Laws.Tests.{T_true}
 use Rattle.model.proofs.Laws.Orders.{cells}
 use Rattle.model.proofs.Laws.Members.{without_in, without-out}
-use Rattle.model.proofs.Laws.Sorted.{Asc, keep-asc, add-asc, add-out, add-in, add-self}
-use Rattle.model.proofs.Laws.Tables.{At, Free}
-use Rattle.model.proofs.Laws.Occupied.{Sound, enter-sound, leave-sound, occupied-open, occupied-close}
-use Rattle.model.proofs.Laws.Net.{Inside, pass-inside}
+use Rattle.model.proofs.Laws.Sorted.{keep-asc, add-asc, add-out, add-in, add-self}
+use Rattle.model.specs.Facts.{Asc, At, Free, Sound, Inside}
+use Rattle.model.proofs.Laws.Occupied.{enter-sound, leave-sound, occupied-open, occupied-close}
+use Rattle.model.proofs.Laws.Net.{pass-inside}
 use Rattle.map.specs.Held.{Placed}
 
 -- What is asked of the net lists.

@@ -11,7 +11,7 @@ use Rattle.model.specs.Masks.{mask_of}
 use Rattle.model.specs.Occupancy.{Occupancy, occupied, open_cell, close_cell}
 use Rattle.model.proofs.Laws.Tests.{true_of}
 use Rattle.model.proofs.Laws.Members.{each-length}
-use Rattle.model.proofs.Laws.Sorted.{Asc}
+use Rattle.model.specs.Facts.{Asc}
 use Rattle.model.proofs.Laws.Occupied.{occupied-asc, occupied-out}
 use Rattle.layout.specs.Widths.{cell_width, net_width}
 use Rattle.layout.specs.Rows.{neighbour_of, id_row, net_row, cells_image, net_image}

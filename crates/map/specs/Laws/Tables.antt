@@ -17,8 +17,8 @@ use Rattle.model.proofs.Laws.Bits.{bit-zero, bit-with, with-few}
 use Rattle.model.proofs.Laws.Tests.{cond_yes, cond_no, T_true, and-fst, and-snd, and_both, or_cases, or_left, or_right, eqb_of, same_test}
 use Rattle.model.proofs.Laws.Orders.{Ordered, differ, is-or, numbers}
 use Rattle.model.proofs.Laws.Members.{key_in}
-use Rattle.model.proofs.Laws.Sorted.{Asc}
-use Rattle.model.proofs.Laws.Tables.{At, at-change, at-unchange, get-same, get-put-self, get-put-other, put-asc, change-asc, table_same, change-same, change-change}
+use Rattle.model.specs.Facts.{Asc, At}
+use Rattle.model.proofs.Laws.Tables.{at-change, at-unchange, get-same, get-put-self, get-put-other, put-asc, change-asc, table_same, change-same, change-change}
 use Rattle.map.specs.Told.{told_one, told, noted}
 
 module _ {K W : Type 0} {eq lt : K → K → Bool} (laws : Ordered eq lt) (k : K) (f : W → W) where

@@ -12,6 +12,7 @@ use mathlib.Core.List.Memᴰ.{head}
 use mathlib.Core.List.{List, [], ◌∷◌, ◌++◌, Memᴰ as Mem}
 use Rattle.std.proofs.Math.ListN.{length, length-append}
 use Rattle.std.proofs.Math.Seq.{drop-length}
+use Rattle.model.specs.Facts.{nil, Sound}
 use Rattle.model.specs.Lists.{keep, add, ascending, each, keys, values, put, get}
 use Rattle.model.specs.Cells.{Cell, same, below}
 use Rattle.model.specs.Occupancy.{Occupancy}
@@ -19,8 +20,8 @@ use Rattle.model.specs.Crowd.{how_many, tallied}
 use Rattle.model.proofs.Laws.Tests.{cond_yes, cond_no}
 use Rattle.model.proofs.Laws.Orders.{cells, differ}
 use Rattle.model.proofs.Laws.Members.{keep_append, each_append, each-length, once-shorter, mem-or}
-use Rattle.model.proofs.Laws.Sorted.{nil, asc-once, asc-equal, add-out, add-in, add-self, add-asc, add-length-new, ascending-asc, ascending-in, ascending-out}
-use Rattle.model.proofs.Laws.Occupied.{Sound, stands-has}
+use Rattle.model.proofs.Laws.Sorted.{asc-once, asc-equal, add-out, add-in, add-self, add-asc, add-length-new, ascending-asc, ascending-in, ascending-out}
+use Rattle.model.proofs.Laws.Occupied.{stands-has}
 use Rattle.layout.specs.Widths.{crowd_width, entity_cell, entity_width}
 use Rattle.layout.specs.Rows.{id_row, entity_of, entities_image, entities_in}
 use Rattle.layout.proofs.Laws.Images.{entities-laws}

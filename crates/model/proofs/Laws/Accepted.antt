@@ -5,6 +5,7 @@ use Rattle.std.specs.Prelude.{◌≡◌, Bool, cond, not, List, [], ◌∷◌, l
 use Rattle.std.proofs.Math.Path.{refl}
 use Rattle.std.proofs.Math.Bool.{true, false}
 use lib.Dec.{T, T_not, eqb, nltb→le}
+use Rattle.model.specs.Facts.{Within}
 use Rattle.model.specs.Lists.{all, run}
 use Rattle.model.specs.Cells.{Cell, cell_in_range}
 use Rattle.model.specs.Occupancy.{Occupancy, Event, Batch, events, occupied, start_batch, play}
@@ -54,11 +55,7 @@ module _ (touch : Cell → Cell → Bool) where
           by false f h = absurd (T_not (eqb n 0) (T_false f) (subst (λ k. T (eqb k 0)) (sym h) tt))
 
   -- Unbroken events leave entities and cells within number, where they were.
-  pub record Within (o : Occupancy) : Type 0 where
-    pub entities : length o.entities ≤ most_entities
-    pub cells : length (occupied o) ≤ most_cells
-
-  pub unbroken-within : (es : List Event) (o : Occupancy) → broken_by touch o es ≡ 0 → Within o → Within (run (play touch) o es)
+  pub unbroken-within : (es : List Event) (o : Occupancy) → broken_by touch o es ≡ 0 → Within touch o → Within touch (run (play touch) o es)
   unbroken-within [] o e w = w
   unbroken-within (ev ∷ es) o e w =
       let r6 = passed (too_many_entities (play touch o ev)) 6 (cond (too_many_cells (play touch o ev)) 7 (broken_by touch (play touch o ev) es)) (λ z. omega arith) e in

@@ -7,14 +7,15 @@ use mathlib.Core.List.Memᴰ.{not-nil as mem-nil}
 use mathlib.Core.List.Memᴰ.{tail}
 use mathlib.Core.List.{List, [], ◌∷◌, Memᴰ as Mem}
 use Rattle.std.proofs.Math.Dec.{eqb_refl}
+use Rattle.model.specs.Facts.{Asc, At, Free}
 use Rattle.model.specs.Lists.{keep, has, keys, only, run}
 use Rattle.model.specs.Cells.{Cell, same, below}
 use Rattle.model.specs.Groups.{Ids, Groups, rule1, rule2, regroup}
 use Rattle.model.proofs.Laws.Tests.{T_true, T_false}
 use Rattle.model.proofs.Laws.Orders.{cells}
 use Rattle.model.proofs.Laws.Members.{keep_out, each_in, each-out}
-use Rattle.model.proofs.Laws.Sorted.{Asc, asc-head, asc-tail}
-use Rattle.model.proofs.Laws.Tables.{At, Free, change-change, change-same}
+use Rattle.model.proofs.Laws.Sorted.{asc-head, asc-tail}
+use Rattle.model.proofs.Laws.Tables.{change-change, change-same}
 use Rattle.model.proofs.Laws.Keys.{rule1-asc}
 use Rattle.model.proofs.Laws.Fine.{Fine}
 use Rattle.model.proofs.Laws.Join.{rule1-fine}

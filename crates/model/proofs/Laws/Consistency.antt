@@ -1,5 +1,5 @@
 -- The eight tests of consistency say exactly what a record of facts says.
-use Rattle.std.specs.Prelude.{ℕ, ◌≤◌, ◌<◌, ◌≡◌, refl, Bool, ◌&&◌, not, T, eqb, leb, ltb, length}
+use Rattle.std.specs.Prelude.{ℕ, ◌≡◌, refl, Bool, ◌&&◌, not, T, eqb, leb, ltb, length}
 use Rattle.std.proofs.Common.{sym, ◌∙◌, subst, eqb→eq, leb→le, le→leb, ltb→lt, lt→ltb}
 use mathlib.Core.List.Memᴰ.{not-nil as mem-nil}
 use mathlib.Core.List.{[], Memᴰ as Mem}
@@ -15,34 +15,15 @@ use Rattle.model.specs.Consistent.{within_number, standing, cells_exact, masks_e
 use Rattle.model.proofs.Laws.Tests.{and-fst, and-snd, and_both}
 use Rattle.model.proofs.Laws.Orders.{cells}
 use Rattle.model.proofs.Laws.Members.{all-in, all-out, has_of, of-has, hasnt-of, of-hasnt, equal-in, equal-out, each-out}
-use Rattle.model.proofs.Laws.Sorted.{Asc, is_ascending-in, is_ascending-out, ascending-asc}
-use Rattle.model.proofs.Laws.Tables.{At, at_mem, at_key, key-at, asc-fair, at_once}
+use Rattle.model.proofs.Laws.Sorted.{is_ascending-in, is_ascending-out, ascending-asc}
+use Rattle.model.proofs.Laws.Tables.{at_mem, at_key, key-at, asc-fair, at_once}
 use Rattle.model.proofs.Laws.Values.{value_in}
 use Rattle.model.proofs.Laws.Walks.{wider}
-use Rattle.model.proofs.Laws.Shared.{Shared, shared-in, shared-out}
+use Rattle.model.proofs.Laws.Shared.{shared-in, shared-out}
 use Rattle.model.proofs.Laws.Masks.{rows-of-keys}
-use Rattle.model.proofs.Laws.Occupied.{Sound}
+use Rattle.model.specs.Facts.{Asc, At, Shared, Ok}
 use Rattle.model.proofs.Laws.Fine.{Fine, along}
 use Rattle.model.proofs.Laws.Steady.{Steady}
-
--- What a consistent state is, as facts.
-pub record Ok (touch : Cell → Cell → Bool) (s : State) : Type 0 where
-  pub sound : Sound touch s.occupancy
-  pub few-entities : length s.occupancy.entities ≤ most_entities
-  pub few-cells : length (occupied s.occupancy) ≤ most_cells
-  pub id-cells : keys s.groups.ids ≡ occupied s.occupancy
-  pub shared : Shared touch s.groups.ids
-  pub records-are : s.records ≡ records s.occupancy.entities s.groups.ids
-  pub under : (g : ℕ) → Mem g (values s.groups.ids) → g < s.groups.next
-  pub range-entities : (c : Cell) → Mem c (values s.occupancy.entities) → T (cell_in_range c)
-  pub range-occupied : (c : Cell) → Mem c s.occupancy.newly_occupied → T (cell_in_range c)
-  pub range-emptied : (c : Cell) → Mem c s.occupancy.newly_emptied → T (cell_in_range c)
-  pub asc-occupied : Asc below s.occupancy.newly_occupied
-  pub asc-emptied : Asc below s.occupancy.newly_emptied
-  pub few-occupied : length s.occupancy.newly_occupied ≤ most_cells
-  pub few-emptied : length s.occupancy.newly_emptied ≤ most_cells
-  pub in-occupied : (c : Cell) → Mem c s.occupancy.newly_occupied → Mem c (occupied s.occupancy)
-  pub not-emptied : (c : Cell) → Mem c s.occupancy.newly_emptied → Mem c (occupied s.occupancy) → ⊥
 
 -- Corners and records that pass the test are equal.
 corner-eq : (p q : Corner) → T (same_corner p q) → p ≡ q

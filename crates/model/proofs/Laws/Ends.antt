@@ -7,7 +7,7 @@ use Rattle.model.specs.Cells.{Cell, same}
 use Rattle.model.specs.Occupancy.{Occupancy, Event, remove, move_to, enters, leaves_from, is_at, pass, play}
 use Rattle.model.proofs.Laws.Tests.{T_true}
 use Rattle.model.proofs.Laws.Orders.{numbers, cells, is-or}
-use Rattle.model.proofs.Laws.Sorted.{Asc}
+use Rattle.model.specs.Facts.{Asc}
 use Rattle.model.proofs.Laws.Tables.{asc-fair, free_of, drop-free, put-asc, drop-asc, put-old, table_same, get-put-self, get-put-other, get-drop-other}
 
 -- Who stands where after an event.

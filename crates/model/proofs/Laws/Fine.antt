@@ -3,13 +3,14 @@ use Rattle.std.specs.Prelude.{ℕ, ◌<◌, ◌≡◌, Bool, T, eqb}
 use Rattle.std.proofs.Common.{sym, subst, eqb→eq}
 use mathlib.Core.List.{List, Memᴰ as Mem}
 use Rattle.std.proofs.Math.Dec.{eqb_refl}
+use Rattle.model.specs.Facts.{At, In, Fair}
 use Rattle.model.specs.Lists.{keep}
 use Rattle.model.specs.Cells.{Cell, same}
 use Rattle.model.specs.Groups.{Ids, Groups, members}
 use Rattle.model.specs.Paths.{Path, stop, step}
 use Rattle.model.proofs.Laws.Orders.{cells}
 use Rattle.model.proofs.Laws.Members.{keep-in, keep_out, key_in, key-out}
-use Rattle.model.proofs.Laws.Tables.{At, In, Fair, at_mem}
+use Rattle.model.proofs.Laws.Tables.{at_mem}
 
 -- A cell with the id g is a member of g.
 pub members-in : {a : Cell} {g : ℕ} (ids : Ids) → At same ids a g → Mem a (members ids g)

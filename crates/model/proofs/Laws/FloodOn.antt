@@ -9,7 +9,7 @@ use Rattle.model.specs.Flood.{whole_flood, Depth, within_depth, flood_cells, flo
 use Rattle.model.specs.Runs.{on_grid}
 use Rattle.model.proofs.Laws.Members.{keep-swap}
 use Rattle.model.proofs.Laws.Touching.{Touching}
-use Rattle.model.proofs.Laws.Occupied.{Sound}
+use Rattle.model.specs.Facts.{Sound}
 use Rattle.model.proofs.Laws.Floods.{flood-cells-once}
 use Rattle.model.proofs.Laws.Reaching.{whole-on}
 use Rattle.model.proofs.Laws.OnGrid.{viewed, stays_on, occupied-on}

@@ -8,6 +8,7 @@ use mathlib.Core.List.Memᴰ.{head}
 use mathlib.Core.List.Memᴰ.{not-nil as mem-nil}
 use mathlib.Core.List.{List, [], ◌∷◌, ◌++◌, Memᴰ as Mem}
 use Rattle.std.proofs.Math.Option.{none, some}
+use Rattle.model.specs.Facts.{minus, Sound}
 use Rattle.model.specs.Lists.{has}
 use Rattle.model.specs.Cells.{Cell, same}
 use Rattle.model.specs.Occupancy.{Occupancy, occupied}
@@ -17,10 +18,10 @@ use Rattle.model.specs.Paths.{stop, step, Joined}
 use Rattle.model.proofs.Laws.Tests.{cond_yes, cond_no}
 use Rattle.model.proofs.Laws.Orders.{cells}
 use Rattle.model.proofs.Laws.Members.{keep-in, keep_out, keep-shorter, has_of, hasnt-of, mem-or, Once, once-nil, once-cons, once-keep, once-shorter}
-use Rattle.model.proofs.Laws.Minus.{minus, minus-out}
+use Rattle.model.proofs.Laws.Minus.{minus-out}
 use Rattle.model.proofs.Laws.Walks.{first, join}
 use Rattle.model.proofs.Laws.Sorted.{asc-once}
-use Rattle.model.proofs.Laws.Occupied.{Sound, occupied-asc}
+use Rattle.model.proofs.Laws.Occupied.{occupied-asc}
 use Rattle.model.proofs.Laws.Visits.{visit-all, visit-once, visit-queued, visit-closed}
 
 -- A seed that is not among the cells gives nothing.

@@ -6,6 +6,7 @@ use Rattle.std.proofs.Math.Path.{subst}
 use mathlib.Core.List.Memᴰ.{head}
 use mathlib.Core.List.Memᴰ.{tail}
 use mathlib.Core.List.{List, [], ◌∷◌, Memᴰ as Mem}
+use Rattle.model.specs.Facts.{At, Fair}
 use Rattle.model.specs.Lists.{run, values, only, any, count}
 use Rattle.model.specs.Cells.{Cell, same}
 use Rattle.model.specs.Groups.{Groups, members, found_at, join_found, rule1, rule2, rule3, affected, take_next, split, split_into, parts}
@@ -13,7 +14,7 @@ use Rattle.model.proofs.Laws.Tests.{decided}
 use Rattle.model.proofs.Laws.Orders.{numbers}
 use Rattle.model.proofs.Laws.Members.{keep_out, count-length, count-out, once-shorter, each-length}
 use Rattle.model.proofs.Laws.Sorted.{ascending-out, asc-once, count-asc}
-use Rattle.model.proofs.Laws.Tables.{At, Fair, at_once}
+use Rattle.model.proofs.Laws.Tables.{at_once}
 use Rattle.model.proofs.Laws.Pairs.{Pairs, Nth, nth-below, nth-mem}
 use Rattle.model.proofs.Laws.Takes.{Apart, takes-next, takes-other, nth-takes}
 use Rattle.model.proofs.Laws.Fine.{Fine, members-out}

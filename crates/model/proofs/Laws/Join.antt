@@ -4,6 +4,7 @@ use Rattle.std.proofs.Common.{arith, sym, ◌∙◌, ap, subst, ⊎_elim}
 use mathlib.Core.List.Memᴰ.{head}
 use mathlib.Core.List.Memᴰ.{not-nil as mem-nil}
 use mathlib.Core.List.{List, [], ◌∷◌, Memᴰ as Mem}
+use Rattle.model.specs.Facts.{At, In, Free, Fair}
 use Rattle.model.specs.Cells.{Cell, same, below}
 use Rattle.model.proofs.Laws.Orders.{cells, numbers}
 use Rattle.model.specs.Lists.{keep, has, put}
@@ -12,7 +13,7 @@ use Rattle.model.specs.Paths.{Path, stop, step}
 use Rattle.model.proofs.Laws.Tests.{cond_yes, cond_no}
 use Rattle.model.proofs.Laws.Members.{keep-in, keep_out, each_in, each-out, has_of, hasnt-of, mem-or}
 use Rattle.model.proofs.Laws.Walks.{wider, join, back}
-use Rattle.model.proofs.Laws.Tables.{At, In, Free, Fair, at_mem, at-put-self, at-put-other, at-put-cases, at-change, at-unchange, fair-put, fair-change}
+use Rattle.model.proofs.Laws.Tables.{at_mem, at-put-self, at-put-other, at-put-cases, at-change, at-unchange, fair-put, fair-change}
 use Rattle.model.proofs.Laws.Fine.{Fine}
 use Rattle.model.proofs.Laws.Largest.{largest-in}
 

@@ -8,13 +8,14 @@ use mathlib.Core.List.Memᴰ.{head}
 use mathlib.Core.List.Memᴰ.{not-nil as mem-nil}
 use mathlib.Core.List.Memᴰ.{tail}
 use mathlib.Core.List.{List, [], ◌∷◌, Memᴰ as Mem}
+use Rattle.model.specs.Facts.{Asc, cons, In}
 use Rattle.model.specs.Lists.{keep, has, add, run, sort, keys, put}
 use Rattle.model.specs.Cells.{Cell, same, below}
 use Rattle.model.specs.Groups.{Ids, Groups, members, largest_group, found_at, join_found, rule1, rule2, rule3, regroup, affected, take_next, split, split_into, parts, largest_piece, smaller}
 use Rattle.model.proofs.Laws.Orders.{cells}
 use Rattle.model.proofs.Laws.Members.{keep_out, key_in, key-out}
-use Rattle.model.proofs.Laws.Sorted.{Asc, cons, asc-head, asc-tail, add-out, add-self, add-in, add-asc, keep-asc}
-use Rattle.model.proofs.Laws.Tables.{In, at_key, key-at, keys-put, keys-change, keys-only}
+use Rattle.model.proofs.Laws.Sorted.{asc-head, asc-tail, add-out, add-self, add-in, add-asc, keep-asc}
+use Rattle.model.proofs.Laws.Tables.{at_key, key-at, keys-put, keys-change, keys-only}
 
 -- A list with each cell of another added.
 abbrev pub add_all : List Cell → List Cell → List Cell

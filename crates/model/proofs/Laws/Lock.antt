@@ -6,13 +6,14 @@ use mathlib.Core.List.Memᴰ.{head}
 use mathlib.Core.List.Memᴰ.{tail}
 use mathlib.Core.List.{List, [], ◌∷◌, Memᴰ as Mem}
 use Rattle.std.proofs.Math.Dec.{T, T_not, not_T, eqb→eq}
+use Rattle.model.specs.Facts.{Asc}
 use Rattle.model.specs.Lists.{keep, any, has, values, only, each, run}
 use Rattle.model.specs.Cells.{Cell, same}
 use Rattle.model.specs.Groups.{Ids, Groups, members, rule2, rule3, take_next, split, split_into, parts, affected}
 use Rattle.model.proofs.Laws.Tests.{false_of, T_true, T_false, same_test}
 use Rattle.model.proofs.Laws.Orders.{cells, numbers}
 use Rattle.model.proofs.Laws.Members.{keep-in, keep_out, keep-swap, keep-ext, any-in, any_out, each_in, each-out, each-ext, key-out, has_of, of-has}
-use Rattle.model.proofs.Laws.Sorted.{Asc, asc-equal, keep-asc, ascending-asc, ascending-in, ascending-out}
+use Rattle.model.proofs.Laws.Sorted.{asc-equal, keep-asc, ascending-asc, ascending-in, ascending-out}
 use Rattle.model.proofs.Laws.Tables.{only-change, change-same}
 use Rattle.model.proofs.Laws.Pieces.{takers, takers-out}
 use Rattle.model.proofs.Laws.PieceOrder.{pieces-sub}

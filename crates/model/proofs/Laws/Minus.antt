@@ -4,15 +4,12 @@ use Rattle.std.proofs.Common.{sym, ⊎_elim}
 use mathlib.Core.List.Memᴰ.{cast as mem-cast}
 use mathlib.Core.List.{List, [], Memᴰ as Mem}
 use Rattle.std.proofs.Math.Dec.{not_T}
-use Rattle.model.specs.Lists.{keep, has, without, add}
+use Rattle.model.specs.Facts.{Asc, minus}
+use Rattle.model.specs.Lists.{has, without, add}
 use Rattle.model.proofs.Laws.Tests.{same_test}
 use Rattle.model.proofs.Laws.Orders.{Ordered, is-or}
 use Rattle.model.proofs.Laws.Members.{keep-in, keep_out, keep-ext, keep-none, keep-swap, hasnt-of, of-hasnt, without_in, without-out}
-use Rattle.model.proofs.Laws.Sorted.{Asc, keep-asc, add-in, add-out, add-self, add-asc, asc-equal, keep-add-yes, keep-add-no}
-
--- The members of l that are not in m, in order.
-abbrev pub minus : {K : Type 0} → (K → K → Bool) → List K → List K → List K
-minus eq l m = keep (λ a. not (has eq m a)) l
+use Rattle.model.proofs.Laws.Sorted.{keep-asc, add-in, add-out, add-self, add-asc, asc-equal, keep-add-yes, keep-add-no}
 
 module _ {K : Type 0} {eq lt : K → K → Bool} (laws : Ordered eq lt) where
   -- A member of l that is not in m stays.

@@ -9,22 +9,18 @@ use mathlib.Core.List.Memᴰ.{not-nil as mem-nil}
 use mathlib.Core.List.Memᴰ.{tail}
 use mathlib.Core.List.{List, [], ◌∷◌, ◌++◌, Memᴰ as Mem}
 use Rattle.std.proofs.Math.Option.{Option, none, some}
+use Rattle.model.specs.Facts.{Asc, minus, Sound, Inside, Net}
 use Rattle.model.specs.Lists.{has, without, each, add, run, values, put, get, drop_key}
 use Rattle.model.specs.Cells.{Cell, same, below}
 use Rattle.model.specs.Occupancy.{Occupancy, Event, remove, move_to, Batch, events, occupied, stands_in, with_entities, start_batch, Passage, leaves, enters, leaves_from, is_at, passages, open_cell, close_cell, enter, leave, pass, play, trace, play_batch}
 use Rattle.model.proofs.Laws.Tests.{T_true, T_false}
 use Rattle.model.proofs.Laws.Orders.{numbers, cells}
 use Rattle.model.proofs.Laws.Members.{of-has, of-hasnt, mem-or, keep-shorter, each-out, run-append, without-out}
-use Rattle.model.proofs.Laws.Sorted.{Asc, add-out, add-length}
+use Rattle.model.proofs.Laws.Sorted.{add-out, add-length}
 use Rattle.model.proofs.Laws.Tables.{at_mem}
 use Rattle.model.proofs.Laws.Values.{value_in, value-put-out, value-drop-out}
-use Rattle.model.proofs.Laws.Minus.{minus, minus-in, minus-out, minus-self, minus-add, minus-without, minus-without-other, add-minus-old, add-minus-new, without-minus}
-use Rattle.model.proofs.Laws.Occupied.{Sound, Fits, occupied-open, occupied-close, occupied-asc, not-occupied, at-occupied, pass-sound, start-sound, events-keep}
-
--- The net lists are the difference of the occupied cells and those that were occupied.
-pub record Net (was : List Cell) (o : Occupancy) : Type 0 where
-  pub opened : o.newly_occupied ≡ minus same (occupied o) was
-  pub emptied : o.newly_emptied ≡ minus same was (occupied o)
+use Rattle.model.proofs.Laws.Minus.{minus-in, minus-out, minus-self, minus-add, minus-without, minus-without-other, add-minus-old, add-minus-new, without-minus}
+use Rattle.model.proofs.Laws.Occupied.{Fits, occupied-open, occupied-close, occupied-asc, not-occupied, at-occupied, pass-sound, start-sound, events-keep}
 
 module _ (touch : Cell → Cell → Bool) (was : List Cell) (was-asc : Asc below was) where
   module _ (c : Cell) (o : Occupancy) (net : Net was o) where
@@ -137,12 +133,6 @@ module _ (touch : Cell → Cell → Bool) where
   plays-gains o (ev ∷ es) =
       let g : Gains o (run (play touch) o (ev ∷ es)) (1 + length es) (1 + length es) = gains-then (play-gains o ev) (plays-gains (play touch o ev) es) in
       record { opened = omega (arith, g.opened); emptied = omega (arith, g.emptied) }
-
--- The cells of the entities and of both net lists are in R.
-pub record Inside (R : Cell → Bool) (o : Occupancy) : Type 0 where
-  pub stood : {c : Cell} → Mem c (values o.entities) → T (R c)
-  pub opened : {c : Cell} → Mem c o.newly_occupied → T (R c)
-  pub emptied : {c : Cell} → Mem c o.newly_emptied → T (R c)
 
 -- A passage enters no cell outside R.
 abbrev pub EntersIn : (Cell → Bool) → Passage → Type 0

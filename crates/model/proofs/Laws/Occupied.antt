@@ -6,6 +6,7 @@ use mathlib.Core.List.Memᴰ.{head}
 use mathlib.Core.List.Memᴰ.{tail}
 use mathlib.Core.List.{List, [], ◌∷◌, ◌++◌, Memᴰ as Mem}
 use Rattle.std.proofs.Math.Option.{Option, none, some}
+use Rattle.model.specs.Facts.{Asc, nil, At, Free, Sound}
 use Rattle.model.specs.Lists.{has, without, add, ascending, run, keys, values, put, get, drop_key}
 use Rattle.model.specs.Cells.{Cell, same, below}
 use Rattle.model.specs.Masks.{masked}
@@ -13,16 +14,10 @@ use Rattle.model.specs.Occupancy.{Occupancy, Event, remove, move_to, Batch, even
 use Rattle.model.proofs.Laws.Tests.{T_true, T_false, same_test}
 use Rattle.model.proofs.Laws.Orders.{numbers, cells, is-or}
 use Rattle.model.proofs.Laws.Members.{any-in, any_out, has_of, of-has, run-append, without_in, without-out}
-use Rattle.model.proofs.Laws.Sorted.{Asc, nil, add-in, add-out, add-self, add-asc, add-old, keep-asc, asc-equal, ascending-asc, ascending-in, ascending-out, ascending-equal}
+use Rattle.model.proofs.Laws.Sorted.{add-in, add-out, add-self, add-asc, add-old, keep-asc, asc-equal, ascending-asc, ascending-in, ascending-out, ascending-equal}
 use Rattle.model.proofs.Laws.Values.{value_in, value_out, value-put-out, value-put-self, value-put-in, value-drop-out, value-drop-in}
-use Rattle.model.proofs.Laws.Tables.{At, Free, free_of, at_mem, put-asc, drop-asc, at-of-drop}
+use Rattle.model.proofs.Laws.Tables.{free_of, at_mem, put-asc, drop-asc, at-of-drop}
 use Rattle.model.proofs.Laws.Masks.{keys-masked}
-
--- Entities ascend; the occupied cells are those where an entity stands, ascending; each mask is exact.
-pub record Sound (touch : Cell → Cell → Bool) (o : Occupancy) : Type 0 where
-  pub asc : Asc ltb (keys o.entities)
-  pub cells : occupied o ≡ ascending below (values o.entities)
-  pub exact : o.masks ≡ masked touch (occupied o)
 
 -- A leaving entity stands in the cell it leaves; an entering entity stands nowhere.
 abbrev pub Fits : List (ℕ × Cell) → Passage → Type 0

@@ -2,6 +2,7 @@
 use Rattle.std.specs.Prelude.{ℕ, ◌≡◌, refl, Bool, true, false, cond, not, T, eqb, ltb}
 use Rattle.std.proofs.Common.{sym, ◌∙◌, ap, ap₂, subst, T_not}
 use mathlib.Core.List.{List, ◌∷◌, Memᴰ as Mem}
+use Rattle.model.specs.Facts.{Asc, Sound, Net}
 use Rattle.model.specs.Lists.{keep, has, without, add, run, put, only, drop_key}
 use Rattle.model.specs.Cells.{Cell, same, below}
 use Rattle.model.specs.Masks.{masked}
@@ -10,13 +11,13 @@ use Rattle.model.specs.Runs.{on_grid, passage_on}
 use Rattle.model.proofs.Laws.Tests.{T_true, T_false, same_test}
 use Rattle.model.proofs.Laws.Orders.{numbers, cells, differ}
 use Rattle.model.proofs.Laws.Members.{keep-in, keep_out, keep-swap, any-in, any_out}
-use Rattle.model.proofs.Laws.Sorted.{Asc, keep-asc, keep-add-yes, keep-add-no}
+use Rattle.model.proofs.Laws.Sorted.{keep-asc, keep-add-yes, keep-add-no}
 use Rattle.model.proofs.Laws.Tables.{keys-only}
 use Rattle.model.proofs.Laws.Masks.{masked_on}
 use Rattle.model.proofs.Laws.Touching.{Touching}
-use Rattle.model.proofs.Laws.Occupied.{Sound, Fits, FitsAll, fits-nil, fits-cons, occupied-asc, pass-sound, start-sound, trace-fits, trace-run}
+use Rattle.model.proofs.Laws.Occupied.{Fits, FitsAll, fits-nil, fits-cons, occupied-asc, pass-sound, start-sound, trace-fits, trace-run}
 use Rattle.model.proofs.Laws.Minus.{minus-self}
-use Rattle.model.proofs.Laws.Net.{Net, pass-net}
+use Rattle.model.proofs.Laws.Net.{pass-net}
 use Rattle.model.proofs.Laws.Rows.{rows-put-yes, rows-put-no, rows-drop-no}
 use Rattle.model.proofs.Laws.View.{keep-sub}
 use Rattle.model.proofs.Laws.Lock.{has_on}

@@ -3,13 +3,14 @@ use Rattle.std.specs.Prelude.{ℕ, ◌≤◌, ◌<◌, ◌≡◌, refl, ◌⊎�
 use Rattle.std.proofs.Common.{arith, sym, ◌∙◌, ap, subst, inl, inr, ⊎_elim}
 use mathlib.Core.List.Memᴰ.{head}
 use mathlib.Core.List.{List, [], ◌∷◌, Memᴰ as Mem}
+use Rattle.model.specs.Facts.{At, Fair}
 use Rattle.model.specs.Lists.{has, run, sort, values, put, only, change}
 use Rattle.model.specs.Cells.{Cell, same, below}
 use Rattle.model.specs.Groups.{Ids, Groups, members, largest_group, found_at, join_found, rule1, rule2, rule3, regroup, affected, take_next, split, split_into, parts, largest_piece, smaller}
 use Rattle.model.proofs.Laws.Tests.{decided, cond_yes, cond_no}
 use Rattle.model.proofs.Laws.Orders.{cells, numbers}
 use Rattle.model.proofs.Laws.Members.{keep_out, each-out, mem-or}
-use Rattle.model.proofs.Laws.Tables.{At, Fair, at_mem, put-out}
+use Rattle.model.proofs.Laws.Tables.{at_mem, put-out}
 use Rattle.model.proofs.Laws.Values.{value_in, value_row}
 use Rattle.model.proofs.Laws.Largest.{largest-in}
 use Rattle.model.proofs.Laws.Join.{merged_id, merged-in, merged-out}

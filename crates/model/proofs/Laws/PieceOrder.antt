@@ -7,13 +7,14 @@ use mathlib.Core.List.Memᴰ.{not-nil as mem-nil}
 use mathlib.Core.List.Memᴰ.{tail}
 use mathlib.Core.List.{List, [], ◌∷◌, Memᴰ as Mem}
 use Rattle.std.proofs.Math.Dec.{not_T}
+use Rattle.model.specs.Facts.{Asc}
 use Rattle.model.specs.Lists.{keep, has}
 use Rattle.model.specs.Cells.{Cell, same, below}
 use Rattle.model.specs.Groups.{part, pieces, parts, largest_piece, smaller}
 use Rattle.model.proofs.Laws.Tests.{T_true, T_false}
 use Rattle.model.proofs.Laws.Orders.{cells, numbers, is-or, lt-differ}
 use Rattle.model.proofs.Laws.Members.{keep-in, keep_out, has_of}
-use Rattle.model.proofs.Laws.Sorted.{Asc, asc-head, asc-tail, keep-asc}
+use Rattle.model.proofs.Laws.Sorted.{asc-head, asc-tail, keep-asc}
 use Rattle.model.proofs.Laws.Walks.{part-self}
 use Rattle.model.proofs.Laws.Pieces.{pick, largest-of, others-out, takers}
 use Rattle.model.proofs.Laws.Pairs.{Pairs, pairs-nil, pairs-cons, pairs-head, pairs-tail, sort-pairs}

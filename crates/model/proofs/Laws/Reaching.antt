@@ -19,7 +19,7 @@ use Rattle.model.proofs.Laws.Tests.{and-fst, and-snd, and_both, same_test}
 use Rattle.model.proofs.Laws.Orders.{cells, differ, differs}
 use Rattle.model.proofs.Laws.Members.{keep-in, keep_out, keep-length, keep-shorter, keep-ext, keep-keep, keep-swap, hasnt-of, of-hasnt, mem-or, without-length, Once, once-keep}
 use Rattle.model.proofs.Laws.View.{keep-sub}
-use Rattle.model.proofs.Laws.Minus.{minus}
+use Rattle.model.specs.Facts.{minus}
 use Rattle.model.proofs.Laws.Floods.{whole-none, whole-visit}
 
 -- A flood that marks is a search among what is not marked.

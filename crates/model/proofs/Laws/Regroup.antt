@@ -5,13 +5,14 @@ use Rattle.std.proofs.Common.{sym, subst, inl, inr, ⊎_elim}
 use mathlib.Core.List.Memᴰ.{head}
 use mathlib.Core.List.Memᴰ.{tail}
 use mathlib.Core.List.{List, [], ◌∷◌, Memᴰ as Mem}
+use Rattle.model.specs.Facts.{Asc, In, Free}
 use Rattle.model.specs.Lists.{has, run, keys}
 use Rattle.model.specs.Cells.{Cell, same, below}
 use Rattle.model.specs.Groups.{Groups, rule1, regroup}
 use Rattle.model.proofs.Laws.Orders.{cells, lt-differ}
 use Rattle.model.proofs.Laws.Members.{keep-in, keep_out, hasnt-of, of-hasnt}
-use Rattle.model.proofs.Laws.Sorted.{Asc, asc-head, asc-tail, add-out}
-use Rattle.model.proofs.Laws.Tables.{In, Free, at_key, key-at}
+use Rattle.model.proofs.Laws.Sorted.{asc-head, asc-tail, add-out}
+use Rattle.model.proofs.Laws.Tables.{at_key, key-at}
 use Rattle.model.proofs.Laws.Keys.{add_all, add_all-old, add_all-new, add_all-out, keys-rule1, keys-regroup}
 use Rattle.model.proofs.Laws.Fine.{Fine}
 use Rattle.model.proofs.Laws.Join.{rule1-fine}

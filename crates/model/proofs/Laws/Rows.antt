@@ -2,11 +2,12 @@
 use Rattle.std.specs.Prelude.{◌≡◌, Bool, true, false, cond, not, T}
 use Rattle.std.proofs.Common.{sym, ◌∙◌, subst, ⊎_elim, T_not}
 use mathlib.Core.List.{List, [], ◌∷◌, Memᴰ as Mem}
+use Rattle.model.specs.Facts.{Asc, cons, At, Free}
 use Rattle.model.specs.Lists.{keep, keys, put, drop_key}
 use Rattle.model.proofs.Laws.Orders.{Ordered, differ}
 use Rattle.model.proofs.Laws.Members.{keep-in, keep_out, keep_all, keep-swap, key_in, key-out}
-use Rattle.model.proofs.Laws.Sorted.{Asc, cons, asc-head, asc-tail}
-use Rattle.model.proofs.Laws.Tables.{At, Free, at_mem, key-free, put-out, put_self, put_in, put-asc, mem-put-out, asc-one-row, table-equal}
+use Rattle.model.proofs.Laws.Sorted.{asc-head, asc-tail}
+use Rattle.model.proofs.Laws.Tables.{at_mem, key-free, put-out, put_self, put_in, put-asc, mem-put-out, asc-one-row, table-equal}
 
 module _ {K W : Type 0} {eq lt : K → K → Bool} (laws : Ordered eq lt) (p : K × W → Bool) where
   -- The keys of the rows that pass are ascending.

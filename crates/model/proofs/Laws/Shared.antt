@@ -1,11 +1,12 @@
 -- The test that ids are shared exactly by joined cells.
-use Rattle.std.specs.Prelude.{ℕ, ◌≡◌, ◌↔◌, Bool, true, false, T, eqb}
+use Rattle.std.specs.Prelude.{Bool, true, false, T, eqb}
 use Rattle.std.proofs.Common.{⊎_elim, eqb→eq}
 use mathlib.Core.List.Memᴰ.{cases_cons as mem-cons}
 use mathlib.Core.List.Memᴰ.{cast as mem-cast}
 use mathlib.Core.List.Memᴰ.{head}
 use mathlib.Core.List.Memᴰ.{tail}
 use mathlib.Core.List.{List, ◌∷◌, Memᴰ as Mem}
+use Rattle.model.specs.Facts.{Shared}
 use Rattle.model.specs.Lists.{without, keys}
 use Rattle.model.specs.Cells.{Cell, same}
 use Rattle.model.specs.Paths.{Joined}
@@ -27,11 +28,6 @@ pub agree-out : (p q : Bool) → T (agree p q) → (T p → T q) × (T q → T p
 agree-out true q t = (λ u. t, λ u. tt)
 agree-out false true t = absurd t
 agree-out false false t = (λ u. u, λ u. u)
-
-module _ (touch : Cell → Cell → Bool) where
-  -- The cells of two rows share an id exactly if a path of cells with an id joins them.
-  abbrev pub Shared : Ids → Type 0
-  Shared ids = (p q : Cell × ℕ) → Mem p ids → Mem q ids → (p.1 ≡ q.1) ↔ Joined touch (keys ids) p.0 q.0
 
 module _ (touch : Cell → Cell → Bool) (flip : (a b : Cell) → T (touch a b) → T (touch b a)) where
   -- The cells of a list are a cell of it and the others.

@@ -7,6 +7,7 @@ use mathlib.Core.List.Memᴰ.{not-nil as mem-nil}
 use mathlib.Core.List.Memᴰ.{tail}
 use mathlib.Core.List.{List, [], ◌∷◌, Memᴰ as Mem}
 use Rattle.std.proofs.Math.Dec.{eqb_refl}
+use Rattle.model.specs.Facts.{At, In}
 use Rattle.model.specs.Cells.{Cell, same}
 use Rattle.model.proofs.Laws.Orders.{cells, numbers}
 use Rattle.model.specs.Lists.{any, has, run}
@@ -16,7 +17,7 @@ use Rattle.model.proofs.Laws.Tests.{decided}
 use Rattle.model.proofs.Laws.Members.{keep-in, each_in, any-in, of-has}
 use Rattle.model.proofs.Laws.Sorted.{ascending-in}
 use Rattle.model.proofs.Laws.Walks.{wider, first}
-use Rattle.model.proofs.Laws.Tables.{At, In, at_mem, at_only, at-of-only, fair-change, fair-only}
+use Rattle.model.proofs.Laws.Tables.{at_mem, at_only, at-of-only, fair-change, fair-only}
 use Rattle.model.proofs.Laws.Keys.{in-keys, keys-take, keys-takes}
 use Rattle.model.proofs.Laws.Takes.{take_cases, take-under, not-takes}
 use Rattle.model.proofs.Laws.Fine.{members-in, members-out, Fine}

@@ -4,6 +4,7 @@ use Rattle.std.specs.Prelude.{ℕ, ◌≡◌, refl, ◌⊎◌, Bool}
 use Rattle.std.proofs.Common.{sym, subst, inl, inr, ⊎_elim}
 use mathlib.Core.List.Memᴰ.{not-nil as mem-nil}
 use mathlib.Core.List.{[], Memᴰ as Mem}
+use Rattle.model.specs.Facts.{Asc, In, Free, Sound, Net}
 use Rattle.model.specs.Lists.{keys}
 use Rattle.model.specs.Cells.{Cell, same, below}
 use Rattle.model.specs.Occupancy.{Occupancy, Batch, occupied, play_batch}
@@ -11,12 +12,12 @@ use Rattle.model.specs.Groups.{records}
 use Rattle.model.specs.Update.{State, fresh, accepted_by}
 use Rattle.model.proofs.Laws.Orders.{cells}
 use Rattle.model.proofs.Laws.Members.{mem-or}
-use Rattle.model.proofs.Laws.Sorted.{Asc, keep-asc, asc-equal}
-use Rattle.model.proofs.Laws.Tables.{In, Free, at-nil, at_key, key-at, free-key}
+use Rattle.model.proofs.Laws.Sorted.{keep-asc, asc-equal}
+use Rattle.model.proofs.Laws.Tables.{at-nil, at_key, key-at, free-key}
 use Rattle.model.proofs.Laws.Touching.{Touching}
 use Rattle.model.proofs.Laws.Minus.{minus-in, minus-out}
-use Rattle.model.proofs.Laws.Occupied.{Sound, nothing-sound, batch-sound, occupied-asc}
-use Rattle.model.proofs.Laws.Net.{Net, batch-net}
+use Rattle.model.proofs.Laws.Occupied.{nothing-sound, batch-sound, occupied-asc}
+use Rattle.model.proofs.Laws.Net.{batch-net}
 use Rattle.model.proofs.Laws.Fine.{Fine}
 use Rattle.model.proofs.Laws.Keys.{regroup-asc}
 use Rattle.model.proofs.Laws.Regroup.{regroup-fine, regroup-in, regroup-out}

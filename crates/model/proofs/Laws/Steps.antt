@@ -5,6 +5,7 @@ use mathlib.Core.List.Memᴰ.{cases_cons as mem-cons}
 use mathlib.Core.List.Memᴰ.{head}
 use mathlib.Core.List.Memᴰ.{not-nil as mem-nil}
 use mathlib.Core.List.{List, [], ◌∷◌, Memᴰ as Mem}
+use Rattle.model.specs.Facts.{Asc}
 use Rattle.model.specs.Lists.{keep, any, has, count}
 use Rattle.model.specs.Cells.{Cell, same, below}
 use Rattle.model.specs.Paths.{Joined}
@@ -12,7 +13,7 @@ use Rattle.model.specs.Shortest.{first_or, steps_from, walk, step_numbers, IsPat
 use Rattle.model.proofs.Laws.Tests.{or_left, or_right, and_both, decided}
 use Rattle.model.proofs.Laws.Orders.{cells, same_of}
 use Rattle.model.proofs.Laws.Members.{keep-in, keep_out, any-in, any_out, has_of, of-has, count-in, count-out, once-shorter}
-use Rattle.model.proofs.Laws.Sorted.{Asc, asc-head, keep-asc, count-asc}
+use Rattle.model.proofs.Laws.Sorted.{asc-head, keep-asc, count-asc}
 use Rattle.model.proofs.Laws.Leading.{leads-head, leads-in, path-leads}
 
 -- The first of a list with a member is a member.

@@ -8,28 +8,12 @@ use mathlib.Core.List.Memᴰ.{tail}
 use mathlib.Core.List.{List, [], ◌∷◌, Memᴰ as Mem}
 use Rattle.std.proofs.Math.Option.{Option, none, some}
 use Rattle.std.proofs.Math.Dec.{not_T}
+use Rattle.model.specs.Facts.{Asc, At, Fair, Free, In}
 use Rattle.model.specs.Lists.{keep, without, add, keys, get, put, only, drop_key, change}
 use Rattle.model.proofs.Laws.Tests.{T_true, T_false, true_of, false_of}
 use Rattle.model.proofs.Laws.Orders.{Ordered, same_of, differ, differs, is-or, lt-differ, asym}
 use Rattle.model.proofs.Laws.Members.{keep_out, keep-no, keep_all, keep-each, each-out, each-ext, each-each, each_same, each-length, key_in, without-length}
-use Rattle.model.proofs.Laws.Sorted.{Asc, asc-head, asc-tail, asc-once, keep-asc, add-asc, add-old, add-length-new}
-
--- The value v stands under the key k.
-pub record At {K W : Type 0} (eq : K → K → Bool) (t : List (K × W)) (k : K) (v : W) : Type 0 where
-  pub is : get eq t k ≡ some v
-
-module _ {K W : Type 0} (eq : K → K → Bool) where
-  -- Something stands under the key.
-  abbrev pub In : List (K × W) → K → Type 0
-  In t k = (v : W) × At eq t k v
-
-  -- Nothing stands under the key.
-  abbrev pub Free : List (K × W) → K → Type 0
-  Free t k = (v : W) → At eq t k v → ⊥
-
-  -- Every row is the one that is found by its key.
-  abbrev pub Fair : List (K × W) → Type 0
-  Fair t = (q : K × W) → Mem q t → At eq t q.0 q.1
+use Rattle.model.proofs.Laws.Sorted.{asc-head, asc-tail, asc-once, keep-asc, add-asc, add-old, add-length-new}
 
 module _ {K W : Type 0} {eq : K → K → Bool} where
   -- One value stands under a key.

@@ -6,13 +6,14 @@ use mathlib.Core.List.Memᴰ.{head}
 use mathlib.Core.List.Memᴰ.{not-nil as mem-nil}
 use mathlib.Core.List.Memᴰ.{tail}
 use mathlib.Core.List.{List, [], ◌∷◌, Memᴰ as Mem}
+use Rattle.model.specs.Facts.{At, In}
 use Rattle.model.specs.Lists.{has, run}
 use Rattle.model.specs.Cells.{Cell, same}
 use Rattle.model.specs.Groups.{Groups, take_next}
 use Rattle.model.proofs.Laws.Tests.{decided, cond_yes, cond_no}
 use Rattle.model.proofs.Laws.Orders.{cells}
 use Rattle.model.proofs.Laws.Members.{has_of, of-has, hasnt-of, of-hasnt}
-use Rattle.model.proofs.Laws.Tables.{At, In, at-change, at-unchange}
+use Rattle.model.proofs.Laws.Tables.{at-change, at-unchange}
 use Rattle.model.proofs.Laws.Pairs.{Pairs, pairs-head, pairs-tail, Nth, here, there, nth-mem}
 
 -- No cell is in both lists.

@@ -5,12 +5,13 @@ use mathlib.Core.List.{List, Memᴰ as Mem}
 use Rattle.std.proofs.Math.Dec.{not_T, eqb_refl}
 use Rattle.component.specs.Order.{before}
 use Rattle.component.specs.Touch.{close, touches}
+use Rattle.model.specs.Facts.{Asc}
 use Rattle.model.specs.Lists.{keep, any, all, has, count}
 use Rattle.model.specs.Cells.{Cell, same, below, Offset, Offsets, moves, offsets26, all26, opposite, holds_opposites, leads, touch_by, shift, neighbours}
 use Rattle.model.proofs.Laws.Tests.{and-fst, and-snd, and_both, or_cases, or_left, or_right, eqb_of, same_test}
 use Rattle.model.proofs.Laws.Orders.{cells, differ}
 use Rattle.model.proofs.Laws.Members.{count-in, any-in, any_out, all-out, keep-in, keep_out, each_in, each-out, has_of, of-has}
-use Rattle.model.proofs.Laws.Sorted.{Asc, each-asc, keep-asc, is_ascending-out, asc-equal}
+use Rattle.model.proofs.Laws.Sorted.{each-asc, keep-asc, is_ascending-out, asc-equal}
 
 -- What every theorem asks of touching.
 pub record Touching (touch : Cell → Cell → Bool) : Type 0 where

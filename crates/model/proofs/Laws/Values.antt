@@ -5,8 +5,8 @@ use mathlib.Core.List.{List, Memᴰ as Mem}
 use Rattle.model.specs.Lists.{keys, values, put, drop_key}
 use Rattle.model.proofs.Laws.Orders.{Ordered, differ}
 use Rattle.model.proofs.Laws.Members.{keep-in, keep_out, each_in, each-out, key_in}
-use Rattle.model.proofs.Laws.Sorted.{Asc}
-use Rattle.model.proofs.Laws.Tables.{At, Free, at_mem, key-free, put-out, put_self, put_in, asc-one-row}
+use Rattle.model.specs.Facts.{Asc, At, Free}
+use Rattle.model.proofs.Laws.Tables.{at_mem, key-free, put-out, put_self, put_in, asc-one-row}
 
 module _ {K W : Type 0} where
   -- The value of a row is a value.

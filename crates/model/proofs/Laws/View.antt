@@ -14,8 +14,8 @@ use Rattle.model.specs.Paths.{Path, stop, step}
 use Rattle.model.proofs.Laws.Tests.{and-snd, and_both, false_of, same_test}
 use Rattle.model.proofs.Laws.Orders.{cells, numbers}
 use Rattle.model.proofs.Laws.Members.{keep_out, keep-ext, keep-keep, of-has}
-use Rattle.model.proofs.Laws.Sorted.{Asc}
-use Rattle.model.proofs.Laws.Tables.{At, put-out, only-put-yes, only-put-no, only-change, change-same}
+use Rattle.model.specs.Facts.{Asc, At}
+use Rattle.model.proofs.Laws.Tables.{put-out, only-put-yes, only-put-no, only-change, change-same}
 use Rattle.model.proofs.Laws.Fine.{Fine}
 use Rattle.model.proofs.Laws.Join.{found-out}
 

@@ -9,10 +9,11 @@ use mathlib.Core.List.Memᴰ.{head}
 use mathlib.Core.List.Memᴰ.{not-nil as mem-nil}
 use mathlib.Core.List.Memᴰ.{tail}
 use mathlib.Core.List.{List, [], ◌∷◌, ◌++◌, Memᴰ as Mem}
+use Rattle.model.specs.Facts.{minus}
 use Rattle.model.specs.Cells.{Cell, same}
 use Rattle.model.specs.Flood.{visit}
 use Rattle.model.proofs.Laws.Orders.{cells}
-use Rattle.model.proofs.Laws.Minus.{minus, minus-in, minus-out}
+use Rattle.model.proofs.Laws.Minus.{minus-in, minus-out}
 use Rattle.model.proofs.Laws.Members.{mem-or, Once, once-nil, once-cons, once-head, once-tail, once-keep, once-append, once-shorter}
 
 module _ (list : Cell → List Cell) where

@@ -2,6 +2,7 @@
 use Rattle.std.specs.Prelude.{ℕ, ◌≡◌, refl, Bool, List, T}
 use Rattle.std.proofs.Common.{sym, ◌∙◌, ap}
 use Rattle.std.proofs.Math.Option.{Option, none, some}
+use Rattle.model.specs.Facts.{Asc}
 use Rattle.model.specs.Lists.{keep, keys}
 use Rattle.model.specs.Cells.{Cell, below}
 use Rattle.model.specs.Occupancy.{occupied}
@@ -10,7 +11,7 @@ use Rattle.model.specs.Shortest.{shown_path, IsPath, end, on}
 use Rattle.model.specs.Update.{State}
 use Rattle.model.specs.Runs.{ReachedBy, AlikeBy, on_grid, SameOn}
 use Rattle.model.proofs.Laws.Members.{keep-in, keep_out}
-use Rattle.model.proofs.Laws.Sorted.{Asc, keep-asc}
+use Rattle.model.proofs.Laws.Sorted.{keep-asc}
 use Rattle.model.proofs.Laws.Tables.{keys-only}
 use Rattle.model.proofs.Laws.Touching.{Touching}
 use Rattle.model.proofs.Laws.OnGrid.{stays_on}

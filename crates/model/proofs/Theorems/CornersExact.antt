@@ -7,6 +7,7 @@ use mathlib.Core.List.Memᴰ.{not-nil as mem-nil}
 use mathlib.Core.List.Memᴰ.{tail}
 use mathlib.Core.List.{List, [], ◌∷◌, Memᴰ as Mem}
 use Rattle.std.proofs.Math.Option.{some}
+use Rattle.model.specs.Facts.{At, Ok}
 use Rattle.model.specs.Lists.{run, ascending, keys, values, get}
 use Rattle.model.specs.Cells.{Cell, same}
 use Rattle.model.specs.Paths.{Path, stop, step}
@@ -15,12 +16,12 @@ use Rattle.model.specs.Update.{State}
 use Rattle.model.specs.Questions.{id_of, id_list, group_by}
 use Rattle.model.specs.Consistent.{consistent_by}
 use Rattle.model.proofs.Laws.Orders.{cells}
-use Rattle.model.proofs.Laws.Tables.{At, at_mem, asc-fair}
+use Rattle.model.proofs.Laws.Tables.{at_mem, asc-fair}
 use Rattle.model.proofs.Laws.Values.{value_in}
 use Rattle.model.proofs.Laws.Fine.{members-out}
 use Rattle.model.proofs.Laws.Touching.{Touching}
 use Rattle.model.proofs.Laws.Records.{shown_of, members-cons, records-keys, records-get}
-use Rattle.model.proofs.Laws.Consistency.{Ok, ok_out, ids-asc}
+use Rattle.model.proofs.Laws.Consistency.{ok_out, ids-asc}
 
 -- n stands in R to what f gives for each of the cells, and one of them has it.
 pub record Extreme (R : ℕ → ℕ → Type 0) (f : Cell → ℕ) (l : List Cell) (n : ℕ) : Type 0 where

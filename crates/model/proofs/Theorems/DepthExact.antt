@@ -15,7 +15,7 @@ use Rattle.model.proofs.Laws.Members.{keep-in, keep_out, keep_all, mem-or}
 use Rattle.model.proofs.Laws.Walks.{first, wider}
 use Rattle.model.proofs.Laws.Leading.{last}
 use Rattle.model.proofs.Laws.Prefixes.{take_out}
-use Rattle.model.proofs.Laws.Occupied.{Sound}
+use Rattle.model.specs.Facts.{Sound}
 use Rattle.model.proofs.Laws.Floods.{whole-none}
 use Rattle.model.proofs.Theorems.FloodExact.{flood-exact, flood-empty}
 

@@ -4,6 +4,7 @@ use Rattle.std.proofs.Common.{arith, sym, ◌∙◌, ap₂, subst, eqb→eq}
 use Rattle.std.proofs.Math.Path.{ap}
 use mathlib.Core.List.{List, [], ◌∷◌, Memᴰ as Mem}
 use Rattle.std.proofs.Math.Option.{some}
+use Rattle.model.specs.Facts.{Asc, At, Ok}
 use Rattle.model.specs.Lists.{has, gather, each, ascending, run, keys, values, get}
 use Rattle.model.specs.Cells.{Cell, same, touch26}
 use Rattle.model.specs.Occupancy.{Event, Batch, remove, move_to, events, start_batch}
@@ -16,15 +17,15 @@ use Rattle.model.specs.Counted.{total, entities_counted, placed, placed_by}
 use Rattle.model.proofs.Laws.Tests.{same_test, eqb_of}
 use Rattle.model.proofs.Laws.Orders.{numbers, cells}
 use Rattle.model.proofs.Laws.Members.{keep-none, each_append, has_of, of-has}
-use Rattle.model.proofs.Laws.Sorted.{Asc, asc-once, ascending-asc, ascending-in}
-use Rattle.model.proofs.Laws.Tables.{At, asc-mem-at, at_mem, at_once, key-at, keys-put, keys-drop, keys_length, asc-fair}
+use Rattle.model.proofs.Laws.Sorted.{asc-once, ascending-asc, ascending-in}
+use Rattle.model.proofs.Laws.Tables.{asc-mem-at, at_mem, at_once, key-at, keys-put, keys-drop, keys_length, asc-fair}
 use Rattle.model.proofs.Laws.Values.{value_in}
 use Rattle.model.proofs.Laws.Touching.{Touching, touching-26}
 use Rattle.model.proofs.Laws.Fine.{members-in, members-out}
 use Rattle.model.proofs.Laws.Records.{shown_of, members-cons, records-get, records-keys}
 use Rattle.model.proofs.Laws.Occupied.{occupied-in}
 use Rattle.model.proofs.Laws.Accepted.{update-accepted}
-use Rattle.model.proofs.Laws.Consistency.{Ok, ok_out, ids-asc}
+use Rattle.model.proofs.Laws.Consistency.{ok_out, ids-asc}
 use Rattle.model.proofs.Laws.Ends.{stands, plays-stands}
 use Rattle.model.proofs.Laws.Totals.{total-append, parted}
 use Rattle.model.proofs.Theorems.StaysConsistent.{consistent-reached}

@@ -12,7 +12,7 @@ use Rattle.model.specs.Paths.{Joined}
 use Rattle.model.proofs.Laws.Tests.{true_of}
 use Rattle.model.proofs.Laws.Members.{Once}
 use Rattle.model.proofs.Laws.Prefixes.{once-prefix}
-use Rattle.model.proofs.Laws.Occupied.{Sound}
+use Rattle.model.specs.Facts.{Sound}
 use Rattle.model.proofs.Laws.Floods.{whole-none, whole-first, whole-once, whole_out, whole_in, whole-shorter, flood-cells-out, flood-cells-shorter, flood-cells-once}
 
 -- A list is the whole flood of a seed: the seed comes first, no cell comes twice, and the cells that come are those that a path of

@@ -3,6 +3,7 @@ use Rattle.std.specs.Prelude.{ℕ, ◌≡◌, ◌↔◌, Bool, T}
 use Rattle.std.proofs.Common.{sym, subst}
 use mathlib.Core.List.{List, Memᴰ as Mem}
 use Rattle.std.proofs.Math.Option.{some}
+use Rattle.model.specs.Facts.{Ok}
 use Rattle.model.specs.Cells.{Cell, Offsets, all26, holds_opposites, touch_by}
 use Rattle.model.specs.Occupancy.{occupied}
 use Rattle.model.specs.Paths.{Joined}
@@ -13,7 +14,7 @@ use Rattle.model.specs.Runs.{ReachedBy}
 use Rattle.model.proofs.Laws.Orders.{cells}
 use Rattle.model.proofs.Laws.Tables.{at_mem, at_key, key-at}
 use Rattle.model.proofs.Laws.Touching.{Touching, touching-by}
-use Rattle.model.proofs.Laws.Consistency.{Ok, ok_out}
+use Rattle.model.proofs.Laws.Consistency.{ok_out}
 use Rattle.model.proofs.Theorems.StaysConsistent.{consistent-reached}
 
 -- What the grouping of a state must be.

@@ -4,6 +4,7 @@ use Rattle.std.proofs.Common.{sym}
 use Rattle.std.proofs.Math.Path.{subst}
 use mathlib.Core.List.{Memᴰ as Mem}
 use Rattle.std.proofs.Math.Option.{some}
+use Rattle.model.specs.Facts.{Ok}
 use Rattle.model.specs.Cells.{Cell, touch26}
 use Rattle.model.specs.Occupancy.{Batch, occupied}
 use Rattle.model.specs.Masks.{masked}
@@ -16,7 +17,7 @@ use Rattle.model.specs.Consistent.{consistent_by}
 use Rattle.model.specs.Runs.{ReachedBy}
 use Rattle.model.proofs.Laws.Touching.{Touching, touching-26}
 use Rattle.model.proofs.Laws.Accepted.{update-accepted}
-use Rattle.model.proofs.Laws.Consistency.{Ok, ok_out}
+use Rattle.model.proofs.Laws.Consistency.{ok_out}
 use Rattle.model.proofs.Theorems.NetExact.{Since, net-exact}
 use Rattle.model.proofs.Theorems.FloodExact.{Whole, flood-exact}
 use Rattle.model.proofs.Theorems.DepthExact.{depth-exact}

@@ -9,8 +9,7 @@ use Rattle.model.specs.Cells.{Cell, same, below}
 use Rattle.model.specs.Occupancy.{Batch, play_batch}
 use Rattle.model.specs.Groups.{Groups, rule1, regroup}
 use Rattle.model.specs.Update.{State, refusal_by, accepted_by, update_by}
-use Rattle.model.proofs.Laws.Sorted.{Asc}
-use Rattle.model.proofs.Laws.Tables.{At, Free, Fair}
+use Rattle.model.specs.Facts.{Asc, At, Free, Fair}
 use Rattle.model.proofs.Laws.Fine.{Fine}
 use Rattle.model.proofs.Laws.Join.{rule1-fine}
 use Rattle.model.proofs.Laws.Regroup.{regroup-fine, rules1-fine}

@@ -6,6 +6,7 @@ use mathlib.Core.List.Memᴰ.{cases_cons as mem-cons}
 use mathlib.Core.List.Memᴰ.{not-nil as mem-nil}
 use mathlib.Core.List.{List, [], ◌∷◌, Memᴰ as Mem}
 use Rattle.std.proofs.Math.Option.{some}
+use Rattle.model.specs.Facts.{At}
 use Rattle.model.specs.Lists.{keep, has, run, keys, get, only, change}
 use Rattle.component.specs.Around.{place, around}
 use Rattle.component.specs.Laws.Neighbours.{around-index}
@@ -18,7 +19,7 @@ use Rattle.model.specs.Questions.{where_is, entities_in, id_of, nearby_by, ones_
 use Rattle.model.specs.Runs.{on_grid, passages_on, AlikeBy, start, next, renamed, SameOn}
 use Rattle.model.proofs.Laws.Orders.{numbers, cells}
 use Rattle.model.proofs.Laws.Members.{keep-in, keep_out, keep-ext, each_in, key-out, of-has}
-use Rattle.model.proofs.Laws.Tables.{At, at_mem, asc-mem-at, get-only-yes, keys-only}
+use Rattle.model.proofs.Laws.Tables.{at_mem, asc-mem-at, get-only-yes, keys-only}
 use Rattle.model.proofs.Laws.Touching.{Touching, touching-by}
 use Rattle.model.proofs.Laws.Records.{shown_of, records-get}
 use Rattle.model.proofs.Laws.Rename.{Sim, members-ren}

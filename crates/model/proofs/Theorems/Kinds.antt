@@ -19,7 +19,7 @@ use Rattle.model.specs.Consistent.{kind_known, consistent_by, consistent}
 use Rattle.model.specs.Runs.{on_grid, passages_on, ReachedBy, Reached, start, next, AlikeBy, Alike, SameOn}
 use Rattle.model.specs.Counted.{entities_counted, placed, placed_of}
 use Rattle.model.proofs.Laws.Tests.{and-fst, and-snd, and_both}
-use Rattle.model.proofs.Laws.Sorted.{Asc}
+use Rattle.model.specs.Facts.{Asc}
 use Rattle.model.proofs.Laws.Tables.{keys_length}
 use Rattle.model.proofs.Laws.Touching.{Touching, AboveZero}
 use Rattle.model.proofs.Laws.Kinds.{kind-opposites, kind-touching}

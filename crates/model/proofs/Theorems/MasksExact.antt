@@ -6,6 +6,7 @@ use mathlib.Core.List.{List, Memᴰ as Mem}
 use Rattle.std.proofs.Math.Option.{none, some}
 use Rattle.std.proofs.Math.ListN.{length}
 use Rattle.std.specs.Int.Count.{ones}
+use Rattle.model.specs.Facts.{Asc, Ok}
 use Rattle.model.specs.Lists.{keep, has, each, count, values, get}
 use Rattle.model.specs.Cells.{Cell, same, below, Offset, Offsets, offsets26, all26, holds_opposites, leads, touch_by, touch26, shift}
 use Rattle.model.specs.Masks.{bit, touching, leads_to, mask_of}
@@ -16,10 +17,10 @@ use Rattle.model.specs.Consistent.{consistent_by}
 use Rattle.model.proofs.Laws.Tests.{and-fst, and-snd, and_both, same_test}
 use Rattle.model.proofs.Laws.Orders.{cells}
 use Rattle.model.proofs.Laws.Members.{any-in, any_out, keep-in, keep_out, keep-ext, keep-each, each_in, each-out, each-each, each-length, count-out, has_of, of-has}
-use Rattle.model.proofs.Laws.Sorted.{Asc, ascending-asc, each-asc, keep-asc, asc-equal}
+use Rattle.model.proofs.Laws.Sorted.{ascending-asc, each-asc, keep-asc, asc-equal}
 use Rattle.model.proofs.Laws.Touching.{touching-by, offsets-asc, shift-mono, shift-leads, AboveZero, leads-shift, neighbour-touches, step_of}
 use Rattle.model.proofs.Laws.Masks.{get-made}
-use Rattle.model.proofs.Laws.Consistency.{Ok, ok_out}
+use Rattle.model.proofs.Laws.Consistency.{ok_out}
 use Rattle.model.proofs.Laws.Bits.{number-ones}
 use Rattle.model.specs.Places.{offset_at}
 use Rattle.model.proofs.Laws.Slots.{offset-in, mask-bit, leads-parts, same_step}

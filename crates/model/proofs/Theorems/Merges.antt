@@ -3,12 +3,13 @@ use Rattle.std.specs.Prelude.{ℕ, suc, ◌≤◌, ◌<◌, ◌≡◌, refl, ◌
 use Rattle.std.proofs.Common.{sym, ◌∙◌, ap, subst, inl, inr, ⊎_elim}
 use mathlib.Core.List.Memᴰ.{head}
 use mathlib.Core.List.{List, [], ◌∷◌, Memᴰ as Mem}
+use Rattle.model.specs.Facts.{At}
 use Rattle.model.specs.Lists.{whilst, get, put}
 use Rattle.model.specs.Cells.{Cell, same, below}
 use Rattle.model.specs.Groups.{Ids, Groups, size, largest_group, found_at, merge, join_found, rule1}
 use Rattle.model.proofs.Laws.Orders.{cells, numbers, is-or}
 use Rattle.model.proofs.Laws.Members.{mem-or}
-use Rattle.model.proofs.Laws.Tables.{At, at-put-self, at-put-other, at-put-split, get-put-other}
+use Rattle.model.proofs.Laws.Tables.{at-put-self, at-put-other, at-put-split, get-put-other}
 use Rattle.model.proofs.Laws.Largest.{largest-in, largest-most, largest-earliest}
 use Rattle.model.proofs.Laws.Join.{merged_id, merged-in, merged-out, merge-was, merge-now}
 

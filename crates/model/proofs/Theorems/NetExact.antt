@@ -3,14 +3,15 @@ use Rattle.std.specs.Prelude.{◌≤◌, ◌≡◌, Bool, not, T, length}
 use Rattle.std.proofs.Common.{arith, sym, subst}
 use mathlib.Core.List.Memᴰ.{not-nil as mem-nil}
 use mathlib.Core.List.{List, [], ◌∷◌, Memᴰ as Mem}
+use Rattle.model.specs.Facts.{Asc, Sound, Net, Inside}
 use Rattle.model.specs.Lists.{keep, has, run, values}
 use Rattle.model.specs.Cells.{Cell, same, below}
 use Rattle.model.specs.Occupancy.{Occupancy, Batch, events, nothing, occupied, start_batch, play_batch}
 use Rattle.model.specs.Masks.{masked}
 use Rattle.model.proofs.Laws.Members.{keep-shorter}
-use Rattle.model.proofs.Laws.Sorted.{Asc, keep-asc}
-use Rattle.model.proofs.Laws.Occupied.{Sound, nothing-sound, batch-sound, occupied-asc, events-keep}
-use Rattle.model.proofs.Laws.Net.{Net, batch-net, plays-gains, Gains, Inside, EntersIn, pass-inside, trace-in, events-in}
+use Rattle.model.proofs.Laws.Sorted.{keep-asc}
+use Rattle.model.proofs.Laws.Occupied.{nothing-sound, batch-sound, occupied-asc, events-keep}
+use Rattle.model.proofs.Laws.Net.{batch-net, plays-gains, Gains, EntersIn, pass-inside, trace-in, events-in}
 
 -- The net lists of `now` since `was`: exactly the cells occupied now and not before, and exactly those occupied before and not now,
 -- both strictly ascending.

@@ -15,7 +15,7 @@ use Rattle.model.specs.Consistent.{consistent_by}
 use Rattle.model.specs.Runs.{ReachedBy}
 use Rattle.model.proofs.Laws.Orders.{cells}
 use Rattle.model.proofs.Laws.Members.{keep-in, count-in, has_of, Once, once-shorter}
-use Rattle.model.proofs.Laws.Sorted.{Asc}
+use Rattle.model.specs.Facts.{Asc}
 use Rattle.model.proofs.Laws.Touching.{Touching}
 use Rattle.model.proofs.Laws.Walks.{first}
 use Rattle.model.proofs.Laws.Occupied.{occupied-asc}

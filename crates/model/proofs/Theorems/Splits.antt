@@ -2,11 +2,12 @@
 use Rattle.std.specs.Prelude.{ℕ, ◌+◌, ◌<◌, ◌≡◌, ◌⊎◌, ◌↔◌, Bool, T, length}
 use Rattle.std.proofs.Common.{sym, ◌∙◌, ap, subst}
 use mathlib.Core.List.{List, ◌∷◌, Memᴰ as Mem}
+use Rattle.model.specs.Facts.{Asc, At}
 use Rattle.model.specs.Lists.{run, keys}
 use Rattle.model.specs.Cells.{Cell, same, below}
 use Rattle.model.specs.Groups.{Groups, members, parts, smaller, largest_piece, take_next, split, split_into}
-use Rattle.model.proofs.Laws.Sorted.{Asc, sort-out}
-use Rattle.model.proofs.Laws.Tables.{At, at_once}
+use Rattle.model.proofs.Laws.Sorted.{sort-out}
+use Rattle.model.proofs.Laws.Tables.{at_once}
 use Rattle.model.proofs.Laws.Keys.{members-asc}
 use Rattle.model.proofs.Laws.Pairs.{Pairs, pairs-nth, Nth, nth-mem, sort-stable}
 use Rattle.model.proofs.Laws.Takes.{Apart, takes-next, takes-other, nth-takes, nth-takes-only}

@@ -12,10 +12,10 @@ use Rattle.model.proofs.Laws.Orders.{cells}
 use Rattle.model.proofs.Laws.Members.{all-out, keep_out, of-hasnt}
 use Rattle.model.proofs.Laws.Values.{value_out}
 use Rattle.model.proofs.Laws.Touching.{Touching, touching-by}
-use Rattle.model.proofs.Laws.Net.{Inside}
-use Rattle.model.proofs.Laws.Accepted.{Accepts, accepts, update-accepted, Within, unbroken-within}
+use Rattle.model.specs.Facts.{Inside, Within, Ok}
+use Rattle.model.proofs.Laws.Accepted.{Accepts, accepts, update-accepted, unbroken-within}
 use Rattle.model.proofs.Laws.Steady.{Steady, accepted-steady}
-use Rattle.model.proofs.Laws.Consistency.{Ok, ok_in, ok_out, steady-of, shared_of}
+use Rattle.model.proofs.Laws.Consistency.{ok_in, ok_out, steady-of, shared_of}
 use Rattle.model.proofs.Theorems.NetExact.{Since, net-exact, net-sizes, net-inside}
 
 -- A fresh state is consistent.

@@ -4,6 +4,7 @@ use Rattle.std.proofs.Common.{arith, sym, subst}
 use Rattle.std.proofs.Math.Path.{ap}
 use Rattle.std.proofs.Math.Option.{some}
 use Rattle.std.proofs.Math.ListN.{length}
+use Rattle.model.specs.Facts.{Ok}
 use Rattle.model.specs.Cells.{Cell}
 use Rattle.model.specs.Occupancy.{Batch, play_batch}
 use Rattle.model.specs.Update.{State, accepted_by, update_by}
@@ -15,7 +16,7 @@ use Rattle.model.proofs.Laws.Values.{value_in}
 use Rattle.model.proofs.Laws.Touching.{Touching}
 use Rattle.model.proofs.Laws.Accepted.{Accepts, accepts, update-accepted}
 use Rattle.model.proofs.Laws.Steady.{opened-asc, opened-free}
-use Rattle.model.proofs.Laws.Consistency.{Ok, ok_out, ids-asc, fine_of, steady-of}
+use Rattle.model.proofs.Laws.Consistency.{ok_out, ids-asc, fine_of, steady-of}
 use Rattle.model.proofs.Theorems.StaysConsistent.{accepted-ok}
 use Rattle.model.proofs.Theorems.Ids.{Later, ids-not-reused, ids-enough-2048}
 

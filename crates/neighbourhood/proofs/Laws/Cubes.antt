@@ -4,12 +4,13 @@ use Rattle.std.proofs.Common.{arith, sym, ap, ◌∙◌, subst, append_assoc, eq
 use Rattle.component.specs.Around.{around, Above, Within}
 use Rattle.component.specs.Laws.Neighbours.{around-ordered, around-length, around-sound, around-complete}
 use Rattle.component.specs.Laws.Tests.{leb-same}
+use Rattle.model.specs.Facts.{Asc, nil, cons}
 use Rattle.model.specs.Lists.{keep, has, keys, gather}
 use Rattle.model.specs.Cells.{Cell, same, below}
 use Rattle.model.proofs.Laws.Tests.{and-fst, and-snd, and_both, T_true, eqb_of}
 use Rattle.model.proofs.Laws.Orders.{cells, differ, differs}
 use Rattle.model.proofs.Laws.Members.{keep-in, keep_out, has_of, of-has, gather_append}
-use Rattle.model.proofs.Laws.Sorted.{Asc, nil, cons, keep-asc, asc-equal}
+use Rattle.model.proofs.Laws.Sorted.{keep-asc, asc-equal}
 use Rattle.table.specs.Moves.{over}
 use Rattle.table.specs.Rows.{cell, cell_at, table4}
 use Rattle.table.specs.Laws.Words.{keys_length, cell-at}

@@ -1,9 +1,10 @@
 -- Four cells, three of them in a row of touching ones: their words hold them, and their floods, at 26 but where 6 is said.
 use Rattle.std.specs.Prelude.{ℕ, ◌≡◌, refl, List, [], ◌∷◌}
 use Rattle.std.proofs.Common.{arith}
+use Rattle.model.specs.Facts.{Asc}
 use Rattle.model.specs.Cells.{Cell, below, touch_at}
 use Rattle.model.specs.Masks.{mask_of, masked}
-use Rattle.model.proofs.Laws.Sorted.{Asc, is_ascending-out}
+use Rattle.model.proofs.Laws.Sorted.{is_ascending-out}
 use Rattle.layout.specs.Rows.{cells_image}
 use Rattle.neighbourhood.specs.Standing.{Cells, flood_from}
 use Rattle.neighbourhood.proofs.Laws.Reads.{cells_of}

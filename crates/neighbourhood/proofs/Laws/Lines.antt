@@ -5,9 +5,10 @@ use mathlib.Core.List.Memᴰ.{cases_cons as mem-cons}
 use mathlib.Core.List.Memᴰ.{not-nil as mem-nil}
 use mathlib.Core.List.{List, [], ◌∷◌, Memᴰ as Mem}
 use lib.Dec.{T}
+use Rattle.model.specs.Facts.{Asc}
 use Rattle.model.specs.Lists.{each}
 use Rattle.model.proofs.Laws.Orders.{Ordered, order-cases, numbers}
-use Rattle.model.proofs.Laws.Sorted.{Asc, asc-head, asc-tail}
+use Rattle.model.proofs.Laws.Sorted.{asc-head, asc-tail}
 pub use Rattle.table.specs.Laws.Places.{get_d-mem}
 
 module _ {A : Type 0} where

@@ -5,12 +5,13 @@ use Rattle.std.proofs.Math.Path.{refl}
 use mathlib.Core.List.Memᴰ.{cases_cons as mem-cons}
 use Rattle.std.proofs.Math.Dec.{T, not_T, ltb→lt, leb→le}
 use Rattle.component.specs.Around.{Within}
+use Rattle.model.specs.Facts.{Asc}
 use Rattle.model.specs.Lists.{keep, keys}
 use Rattle.model.specs.Cells.{Cell, below}
 use Rattle.model.proofs.Laws.Tests.{and-snd, and_both, or_cases, or_left, or_right, cond_yes, cond_no, decided, eqb_of}
 use Rattle.model.proofs.Laws.Orders.{Ordered, asym, cells}
 use Rattle.model.proofs.Laws.Members.{keep-no, keep-none}
-use Rattle.model.proofs.Laws.Sorted.{Asc, asc-head, asc-tail}
+use Rattle.model.proofs.Laws.Sorted.{asc-head, asc-tail}
 use Rattle.table.specs.declared.Place.{Place}
 use Rattle.table.specs.declared.Place.TheVariants.{Found, Missing}
 use Rattle.table.specs.Rows.{cell, further, placed, place_of, table4, is_table4}

@@ -6,13 +6,14 @@ use Rattle.std.proofs.Math.Path.{refl, sym, ap}
 use mathlib.Core.List.Memᴰ.{cast as mem-cast}
 use mathlib.Core.List.{List, Memᴰ as Mem}
 use Rattle.std.proofs.Math.ListN.{get_or}
+use Rattle.model.specs.Facts.{Asc}
 use Rattle.model.specs.Lists.{each, keep, keys, is_ascending, count}
 use Rattle.model.specs.Cells.{Cell, below, offsets_of, touch_at, shift}
 use Rattle.model.specs.Masks.{bit, touching, leads_to, mask_of, masked}
 use Rattle.model.proofs.Laws.Tests.{T_true, true_of}
 use Rattle.model.proofs.Laws.Orders.{cells}
 use Rattle.model.proofs.Laws.Members.{keep-in, keep_out, each_in, each-out, each-each, each_same, each-length, key_in, count-in, Once, once-keep, once-each}
-use Rattle.model.proofs.Laws.Sorted.{Asc, is_ascending-in, asc-once}
+use Rattle.model.proofs.Laws.Sorted.{is_ascending-in, asc-once}
 use Rattle.model.specs.Places.{offset_at}
 use Rattle.model.proofs.Laws.Slots.{mask-bit}
 use Rattle.model.proofs.Theorems.MasksExact.{mask-cells}

@@ -13,6 +13,7 @@ use Rattle.component.specs.Adjacent.{has_room}
 use Rattle.component.specs.Laws.Adjacent.{range-room, room-above}
 use Rattle.component.specs.Laws.Neighbours.{neighbours-ordered}
 use Rattle.component.specs.Touch.{touches}
+use Rattle.model.specs.Facts.{Asc}
 use Rattle.model.specs.Lists.{each, keep, has, count, keys, values, get, only}
 use Rattle.model.specs.Cells.{Cell, same, below, cell_in_range, offsets_of, touch_at}
 use Rattle.model.specs.Places.{offset_at}
@@ -20,7 +21,7 @@ use Rattle.model.specs.Groups.{Ids, found_at}
 use Rattle.model.proofs.Laws.Tests.{T_true, true_of}
 use Rattle.model.proofs.Laws.Orders.{cells}
 use Rattle.model.proofs.Laws.Members.{each_append, each_in, gather_append, keep_append, keep-in, keep_out, has_of, of-has, of-hasnt, count-in, count-out}
-use Rattle.model.proofs.Laws.Sorted.{Asc, each-asc, count-asc, keep-asc, asc-equal}
+use Rattle.model.proofs.Laws.Sorted.{each-asc, count-asc, keep-asc, asc-equal}
 use Rattle.model.proofs.Laws.Tables.{keys-only, asc-mem-at, of-free, free-key}
 use Rattle.layout.specs.Rows.{neighbour_of, number_of}
 use Rattle.layout.proofs.Laws.Numbers.{neighbour-at, number-range, neighbour-of-number}

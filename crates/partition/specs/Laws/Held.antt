@@ -10,13 +10,14 @@ use mathlib.Core.List.{List, [], ◌∷◌, Memᴰ as Mem}
 use Rattle.std.proofs.Math.Option.{Option, none, some}
 use Rattle.std.proofs.Math.Dec.{ltb}
 use Rattle.std.proofs.Math.ListN.{length, get_or}
+use Rattle.model.specs.Facts.{Asc}
 use Rattle.model.specs.Lists.{each, keys, get, put}
 use Rattle.model.specs.Cells.{Cell, below, cell_in_range}
 use Rattle.model.specs.Groups.{Ids, Group}
 use Rattle.model.proofs.Laws.Tests.{and_both, true_of, eqb_of}
 use Rattle.model.proofs.Laws.Members.{each-length, each-each, each_same}
 use Rattle.model.proofs.Laws.Orders.{Ordered, numbers}
-use Rattle.model.proofs.Laws.Sorted.{Asc, add-length}
+use Rattle.model.proofs.Laws.Sorted.{add-length}
 use Rattle.model.proofs.Laws.Tables.{keys-put, keys_length, put-asc, at_mem}
 use Rattle.table.specs.Rows.{Kind, number, cell, cell_at, rows_of, entry_of, table_of, image_of, stored_of, are_wide, is_table_of, has_room_of, place_of, key1, rest1}
 use Rattle.table.specs.declared.Place.TheVariants.{Found, Missing}

@@ -13,7 +13,7 @@ use Rattle.model.specs.Cells.{Cell, same, below, cell_in_range}
 use Rattle.model.specs.Groups.{Ids}
 use Rattle.model.proofs.Laws.Orders.{cells}
 use Rattle.model.proofs.Laws.Members.{each-length, each_append, gather_append, key_in, key-out}
-use Rattle.model.proofs.Laws.Sorted.{Asc}
+use Rattle.model.specs.Facts.{Asc}
 use Rattle.model.proofs.Laws.Tables.{put-asc, put-out}
 use Rattle.table.specs.Rows.{cell, cell_at, cell_words, rows_of, row_of, table_of, image_of, stored_of, is_table_of, has_room_of, place_of, key4}
 use Rattle.table.specs.declared.Place.TheVariants.{Found, Missing}

@@ -10,6 +10,7 @@ use mathlib.Core.List.Memᴰ.{tail}
 use mathlib.Core.List.{List, [], ◌∷◌, ◌++◌, append-nil, Memᴰ as Mem}
 use Rattle.std.proofs.Math.Option.{Option, some}
 use Rattle.std.proofs.Math.Dec.{eqb_refl}
+use Rattle.model.specs.Facts.{Asc}
 use Rattle.model.specs.Lists.{keep, has, keys, get, put, values, ascending}
 use Rattle.model.specs.Cells.{Cell, same}
 use Rattle.model.specs.Groups.{Ids, members, Group, standing_at, lower, higher, corner_at, record_of, records}
@@ -17,7 +18,7 @@ use Rattle.model.specs.Crowd.{how_many}
 use Rattle.model.proofs.Laws.Tests.{neqb-of}
 use Rattle.model.proofs.Laws.Orders.{numbers, cells, is-or}
 use Rattle.model.proofs.Laws.Members.{Once, once-head, once-tail, keep_append, keep-yes, keep-no, keep-none, keep_out, key_in, key-out, each_append, run-append, keep-shorter, each-length, gather-out}
-use Rattle.model.proofs.Laws.Sorted.{Asc, asc-once, ascending-asc, ascending-length}
+use Rattle.model.proofs.Laws.Sorted.{asc-once, ascending-asc, ascending-length}
 use Rattle.model.proofs.Laws.Tables.{keys_length, put-asc, table_same, get-put-self, get-put-other}
 use Rattle.model.proofs.Laws.Records.{shown_of, records-get, records-keys}
 use Rattle.model.proofs.Laws.EntityRows.{standing-last}

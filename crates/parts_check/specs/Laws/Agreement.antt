@@ -5,13 +5,14 @@ use Rattle.std.proofs.Math.Path.{sym, ap}
 use mathlib.Core.List.{List, Memᴰ as Mem}
 use Rattle.std.proofs.Math.ListN.{get_or}
 use Rattle.std.proofs.lemmas.List.{length-replicate, get_or-replicate}
+use Rattle.model.specs.Facts.{Shared}
 use Rattle.model.specs.Lists.{all, keys, count}
 use Rattle.model.specs.Cells.{Cell, touch_at}
 use Rattle.model.specs.Groups.{Ids}
 use Rattle.model.specs.Paths.{Joined}
 use Rattle.model.proofs.Laws.Tests.{same_test, eqb_of, or_cases, or_right}
 use Rattle.model.proofs.Laws.Members.{all-in, all-out, count-in, count-out}
-use Rattle.model.proofs.Laws.Shared.{Shared, shared-in, shared-out, agree-in, agree-out}
+use Rattle.model.proofs.Laws.Shared.{shared-in, shared-out, agree-in, agree-out}
 use Rattle.model.specs.Shared.{shared_in}
 use Rattle.model.proofs.Laws.Kinds.{kind-touching}
 use Rattle.neighbourhood.proofs.Laws.Lines.{get_d-mem, mem-get_d}

@@ -6,13 +6,14 @@ use Rattle.std.proofs.Math.Bool.{true, false}
 use mathlib.Core.List.{List}
 use borrow.Author.Tests.{leb-true, le-leb}
 use Rattle.component.specs.Laws.Tests.{both}
+use Rattle.model.specs.Facts.{Asc}
 use Rattle.model.specs.Lists.{equal, keys, values, is_ascending}
 use Rattle.model.specs.Cells.{Cell, same, below}
 use Rattle.model.specs.Update.{most_cells}
 use Rattle.model.proofs.Laws.Tests.{T_true, true_of}
 use Rattle.model.proofs.Laws.Orders.{cells as cell-order}
 use Rattle.model.proofs.Laws.Members.{equal-in, equal-out}
-use Rattle.model.proofs.Laws.Sorted.{Asc, ascending-asc}
+use Rattle.model.proofs.Laws.Sorted.{ascending-asc}
 use Rattle.table.specs.Rows.{cell, are_zero, table4, is_table4, is_table_of}
 use Rattle.table.specs.Laws.Words.{keys_length}
 use Rattle.layout.specs.Widths.{cell_width, id_width}

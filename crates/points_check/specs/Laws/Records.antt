@@ -15,7 +15,7 @@ use Rattle.model.specs.Crowd.{how_many}
 use Rattle.model.specs.Consistent.{same_record}
 use Rattle.model.proofs.Laws.Tests.{T_true, true_of, same_test}
 use Rattle.model.proofs.Laws.Members.{equal-in, equal-out}
-use Rattle.model.proofs.Laws.Sorted.{Asc}
+use Rattle.model.specs.Facts.{Asc}
 use Rattle.model.proofs.Laws.Consistency.{record-eq, record-self}
 use Rattle.table.specs.Rows.{cell, cell_at, is_table4, are_zero}
 use Rattle.table.specs.Laws.Images.{table-facts}

@@ -9,9 +9,10 @@ use Rattle.std.proofs.Math.Dec.{T, leb, leb→le}
 use Rattle.std.proofs.Math.ListN.{length, take, replicate, take-append-drop}
 use Rattle.std.proofs.lemmas.List.{length-replicate}
 use Rattle.std.proofs.Math.Seq.{length-take-le}
+use Rattle.model.specs.Facts.{Asc}
 use Rattle.model.specs.Lists.{is_ascending, gather, keys}
 use Rattle.model.proofs.Laws.Tests.{and-fst, and-snd, T_true, true_of}
-use Rattle.model.proofs.Laws.Sorted.{Asc, is_ascending-out}
+use Rattle.model.proofs.Laws.Sorted.{is_ascending-out}
 use Rattle.table.specs.Rows.{Kind, are_zero, entry_of, row_of, table_of, image_of, are_wide, is_table_of}
 use Rattle.table.specs.Laws.Kinds.{Lawful}
 use Rattle.table.specs.Laws.Words.{words-all}

@@ -7,10 +7,11 @@ use mathlib.Core.List.{List, Memᴰ as Mem}
 use Rattle.std.proofs.Math.Dec.{T}
 use Rattle.std.proofs.Math.ListN.{length, length-drop}
 use Rattle.std.proofs.Math.Seq.{length-take-le}
+use Rattle.model.specs.Facts.{Asc}
 use Rattle.model.specs.Lists.{has, is_ascending, keys, put, drop_key}
 use Rattle.model.proofs.Laws.Tests.{and_both, T_true, true_of, eqb_of, or_left, or_right}
 use Rattle.model.proofs.Laws.Members.{all-in, all-out, keep_out, has_of}
-use Rattle.model.proofs.Laws.Sorted.{Asc, is_ascending-in}
+use Rattle.model.proofs.Laws.Sorted.{is_ascending-in}
 use Rattle.model.proofs.Laws.Tables.{put-out, put-asc, drop-asc}
 use Rattle.table.specs.Rows.{Kind, table_of, stored_of, are_wide, is_table_of, has_room_of}
 use Rattle.table.specs.Laws.Kinds.{Lawful}

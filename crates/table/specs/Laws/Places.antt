@@ -7,11 +7,12 @@ use mathlib.Core.List.Memᴰ.{head}
 use mathlib.Core.List.Memᴰ.{tail}
 use mathlib.Core.List.{List, [], ◌∷◌, ◌++◌, Memᴰ as Mem}
 use Rattle.std.proofs.Math.Option.{none, some}
+use Rattle.model.specs.Facts.{Asc}
 use Rattle.model.specs.Lists.{has, keys, get, put, drop_key}
 use Rattle.model.proofs.Laws.Tests.{T_true, T_false, true_of, false_of, or-neither}
 use Rattle.model.proofs.Laws.Orders.{Ordered, same_of, differ, lt-differ, asym}
 use Rattle.model.proofs.Laws.Members.{keep-yes, keep-no, has_of, hasnt-of, of-hasnt}
-use Rattle.model.proofs.Laws.Sorted.{Asc, asc-head, asc-tail}
+use Rattle.model.proofs.Laws.Sorted.{asc-head, asc-tail}
 use Rattle.model.proofs.Laws.Tables.{of-free, free-key, drop-free, asc-fair, asc-mem-at}
 use Rattle.table.specs.declared.Place.{Place}
 use Rattle.table.specs.declared.Place.TheVariants.{Found, Missing}

@@ -2,6 +2,7 @@
 use Rattle.std.specs.Prelude.{ℕ, ◌≡◌, true, T, length, drop}
 use Rattle.std.proofs.Common.{sym, ap, ◌∙◌, subst, take-append-drop}
 use mathlib.Core.List.{List, ◌++◌, Memᴰ as Mem}
+use Rattle.model.specs.Facts.{Ok}
 use Rattle.model.specs.Lists.{values}
 use Rattle.model.specs.Cells.{Cell, cell_in_range}
 use Rattle.model.specs.Occupancy.{occupied}
@@ -10,7 +11,7 @@ use Rattle.model.specs.Consistent.{kind_known}
 use Rattle.model.proofs.Laws.Orders.{cells}
 use Rattle.model.proofs.Laws.Sorted.{ascending-out}
 use Rattle.model.proofs.Laws.Tests.{and-fst, and-snd, and_both}
-use Rattle.model.proofs.Laws.Consistency.{Ok, ok_in, ok_out}
+use Rattle.model.proofs.Laws.Consistency.{ok_in, ok_out}
 use Rattle.model.proofs.Theorems.Kinds.{touching-of}
 use Rattle.layout.specs.Rows.{entities_image, cells_image, net_image, ids_image, groups_image}
 use Rattle.layout.specs.State.{entities_len, cells_len, net_len, ids_len, groups_len, state_len, decode}

@@ -13,11 +13,11 @@ use Rattle.model.specs.Groups.{regroup}
 use Rattle.model.specs.Update.{State, most_cells, touch_of, accepted_by, accepted}
 use Rattle.model.proofs.Laws.Orders.{cells}
 use Rattle.model.proofs.Laws.Minus.{minus-self}
-use Rattle.model.proofs.Laws.Sorted.{Asc, nil}
+use Rattle.model.specs.Facts.{Asc, nil, Sound, Ok}
 use Rattle.model.proofs.Laws.Tables.{keys_length}
-use Rattle.model.proofs.Laws.Occupied.{Sound, start-sound, occupied-asc}
+use Rattle.model.proofs.Laws.Occupied.{start-sound, occupied-asc}
 use Rattle.model.proofs.Laws.Accepted.{Accepts, accepts, update-accepted}
-use Rattle.model.proofs.Laws.Consistency.{Ok, ok_in}
+use Rattle.model.proofs.Laws.Consistency.{ok_in}
 use Rattle.model.proofs.Theorems.StaysConsistent.{accepted-ok}
 use Rattle.model.proofs.Theorems.UpdateIds.{next_fits}
 use Rattle.model.proofs.Theorems.Kinds.{touching-of}
