@@ -1,4 +1,4 @@
-/* The yard's calls for C: the functions of the static library libcapmarrow.a, which `rt staticlib capmarrow` proves and writes for
+/* The yard's calls for C: the functions of the static library libcapmarrow.a, which `rt lib` in crates/capmarrow proves and writes for
  * x86-64 Linux. Each is proved complete in crates/capmarrow: its answer and every word it leaves in lent memory, for all inputs.
  *
  * A slice is a pointer and its number of 64-bit words; slices of one call must not overlap. Each function gives back the scope's

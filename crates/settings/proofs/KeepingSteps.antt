@@ -1,10 +1,14 @@
 -- Each way out of keeping the last records.
 use Prim.Native.Nat.{ℕ, ◌-◌, ◌<◌, ◌≤◌}
+use native.Mathlib.Omega.{arith}
 use mathlib.Core.Path.{◌≡◌, refl, sym, ap, ◌∙◌}
 use mathlib.Core.Bool.{true}
+use mathlib.Core.Logic.{◌⊎◌, inl, inr}
 use mathlib.Core.List.{List, ◌++◌}
 use borrow.Author.Tests.{lt-ltb}
 use lib.ListN.{length, take, drop, replicate}
+use denote.Enum.Declared.{tag_of}
+use Rattle.settings.specs.contracts.kinds.Reading.{the_type}
 use Rattle.settings.specs.declared.kinds.Fault.{Fault}
 use Rattle.settings.specs.declared.kinds.Reading.{Reading}
 use Rattle.settings.specs.declared.kinds.Reading.TheVariants as reading
@@ -17,10 +21,21 @@ use Rattle.settings.proofs.Laws.Keeping.{keep-in}
 use Rattle.settings.proofs.Laws.Parsing.{sound}
 use Rattle.settings.proofs.Laws.Reading.{tell-faulty}
 
+-- The number of a reading is below that of one that tells a fault.
+pub low : {x : ℕ} → (x ≡ 0) ⊎ ((x ≡ 1) ⊎ (x ≡ 2)) → x < 3
+low (inl e) = omega arith
+low (inr (inl e)) = omega arith
+low (inr (inr e)) = omega arith
+
 -- Bytes of which no fault is told are whole records.
-pub told-whole : (m : Records) {r : Reading} → r ≡ tell 0 m → ((f : Fault) (p : ℕ) → r ≡ reading.Faulty f p → ⊥) → (rs : List (List ℕ)) × (m ≡ whole rs)
+pub told-whole : (m : Records) {r : Reading} → r ≡ tell 0 m → tag_of the_type r < 3 → (rs : List (List ℕ)) × (m ≡ whole rs)
 told-whole (whole rs) e n = (rs, refl)
-told-whole (faulty f p) e n = absurd (n f p e)
+told-whole (faulty f p) {r} e n = let x : tag_of the_type r ≡ 3 = ap (tag_of the_type) e in absurd (omega arith)
+
+-- The same of a reading that is not one that tells a fault.
+pub whole-unless-faulty : (m : Records) {r : Reading} → r ≡ tell 0 m → ((f : Fault) (p : ℕ) → r ≡ reading.Faulty f p → ⊥) → (rs : List (List ℕ)) × (m ≡ whole rs)
+whole-unless-faulty (whole rs) e n = (rs, refl)
+whole-unless-faulty (faulty f p) e n = absurd (n f p e)
 
 -- Bytes that are read without a fault are whole records.
 pub is_whole : (b : List ℕ) {rs : List (List ℕ)} → records_of true b ≡ whole rs → Whole rs b

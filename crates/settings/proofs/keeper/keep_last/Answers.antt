@@ -1,5 +1,5 @@
 -- Each way out is a law.
-use Rattle.settings.proofs.KeepingSteps.{overlong, broken, told-whole, is_whole, done}
+use Rattle.settings.proofs.KeepingSteps.{overlong, broken, whole-unless-faulty, is_whole, done}
 use Rattle.settings.specs.Parsing.{records_of}
 use lib.ListN.{take}
 use mathlib.Core.Bool.{true}
@@ -19,12 +19,12 @@ pub keep_whole-requires : goal.keep_whole-requires
 keep_whole-requires c =
     let a = c.args in
     let b = take a.n a.s.now in
-    let w = told-whole (records_of true b) c.read_in-read.ensures c.in_default.not-Faulty in
+    let w = whole-unless-faulty (records_of true b) c.read_in-read.ensures c.in_default.not-Faulty in
     (c.if-s-n.false, (w.0, is_whole b w.1))
 
 pub returns : goal.returns
 returns c =
     let a = c.args in
     let b = take a.n a.s.now in
-    let w = told-whole (records_of true b) c.read_in-read.ensures c.in_default.not-Faulty in
+    let w = whole-unless-faulty (records_of true b) c.read_in-read.ensures c.in_default.not-Faulty in
     done a.s.now a.n a.scratch.now w.0 c.if-s-n.false w.1 (c.keep_whole.ensures w.0 (is_whole b w.1))
