@@ -74,15 +74,18 @@ fn play<W: Write, F: Read + Seek>(
     close(out, desk)
 }
 
-// The file that an argument names is played; nothing is played of one that cannot be opened.
+// The file that an argument names is played; nothing is played of one that cannot be opened, or whose name is not UTF-8.
 pub fn play_file<R: Files, W: Write>(
     rt: &R,
     out: &mut W,
     desk: &mut [u64; DESK_LEN],
-    name: &str,
+    name: &[u8],
 ) -> io::Result<()> {
-    begin_file(out, name.as_bytes())?;
-    match fs::open(rt, name) {
+    begin_file(out, name)?;
+    let Ok(path) = str::from_utf8(name) else {
+        return Ok(());
+    };
+    match fs::open(rt, path) {
         Ok(mut file) => play(out, desk, &mut file),
         Err(_) => Ok(()),
     }

@@ -6,13 +6,20 @@ mod playing;
 
 use case_batches::desk::DESK_LEN;
 use case_batches::telling::tell_all;
-use std::{env, io};
+use std::env::{Env, FillError};
+use std::io;
 
 fn main(rt: HostRuntime) -> io::Result<()> {
     let mut desk = [0u64; DESK_LEN];
     let mut out = rt.stdout();
-    for name in env::args(&rt)?.skip(1) {
-        files::play_file(&rt, &mut out, &mut desk, name.as_str())?;
+    for i in 1..usize::MAX {
+        let mut name = [0u8; 4096];
+        let n = match rt.arg(i, &mut name) {
+            Ok(n) => n,
+            Err(FillError::TooLong) => 0,
+            Err(FillError::NotPresent) => break,
+        };
+        files::play_file(&rt, &mut out, &mut desk, &name[..n])?;
     }
     tell_all(&mut out, &desk)
 }
