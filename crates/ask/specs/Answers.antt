@@ -5,7 +5,7 @@ use Rattle.std.proofs.Math.Option.{Option}
 use Rattle.component.specs.declared.CellId.{CellId}
 use Rattle.component.specs.Stored.{stored, cell_id}
 use Rattle.component.specs.Coord.{coord_in_range, bad_axis}
-use Rattle.refusal.specs.declared.Refusal.{Refusal}
+use Rattle.refusal.specs.Forms.{Refused}
 use Rattle.refusal.specs.Forms.{none, out_of_range}
 use Rattle.model.specs.Lists.{has}
 use Rattle.model.specs.Cells.{same}
@@ -18,16 +18,15 @@ use Rattle.lookups.specs.declared.Shown.{Shown}
 use Rattle.lookups.specs.Told.{shown_of}
 use Rattle.lists.specs.Told.{listed_numbers, listed_cells, there, path_from}
 use Rattle.floods.specs.declared.Visited.{Visited}
-use Rattle.floods.specs.declared.Depth.{Depth}
-use Rattle.floods.specs.Told.{flooded, depth_of}
+use Rattle.floods.specs.Told.{Depth, flooded, depth_of}
 use Rattle.consistent.specs.Answer.{state_refusal}
 
 -- The state's refusal, and then 4 for a cell that is out of range: a question's cell is at position 0, and told is its first bad axis.
-unfoldable pub cell_refusal : List ℕ → CellId → Refusal
+unfoldable pub cell_refusal : List ℕ → CellId → Refused
 cell_refusal w c = unless (state_refusal w) (λ r. r) (cond (coord_in_range c.coord) none (out_of_range 0 (bad_axis c.coord)))
 
 -- The same, and then 4 for a second cell that is out of range, at position 1.
-unfoldable pub cells_refusal : List ℕ → CellId → CellId → Refusal
+unfoldable pub cells_refusal : List ℕ → CellId → CellId → Refused
 cells_refusal w a b = unless (cell_refusal w a) (λ r. r) (cond (coord_in_range b.coord) none (out_of_range 1 (bad_axis b.coord)))
 
 -- What touching means in the state: 6, 18 or 26.

@@ -2,212 +2,191 @@
 // broken point, a cell out of range by 4 with its position and axis, and an answer longer than the slice for it by 8, in that order.
 #![tactic(auto)]
 
-ghost use Rattle.std.specs.Prelude.{◌≡◌};
-ghost use Rattle.lookups.specs.Told.{kind_told, where_told, id_told, count_told, group_told};
+ghost use Rattle.std.specs.Prelude.{◌≡◌, ◌≤◌};
+ghost use Rattle.model.specs.Update.{most_cells};
+ghost use Rattle.layout.specs.Rows.{cells_in};
+ghost use Rattle.layout.specs.State.{decode, cell_words, cell_count};
+ghost use Rattle.neighbourhood.specs.Standing.{Cells};
+ghost use Rattle.refusal.specs.Forms.{outcome};
+ghost use Rattle.told.specs.Told.{told_of, found_told};
 ghost use Rattle.lists.specs.Told.{listing_told};
 ghost use Rattle.floods.specs.Told.{flooding_told};
 ghost use Rattle.ask.specs.Answers.{cell_refusal, cells_refusal, kind_of, where_of, id_of, count_of, group_of, ids_of, occupied_of, emptied_of, entities_of, nearby_of, cube_of, flood_of, path_of};
+ghost use Rattle.ask.specs.Laws.Ways.{Sure, ranged};
 
 use component::CellId;
-pub use floods::{Depth, Flooding, Visited};
-pub use lists::Listing;
-pub use lookups::{CountOf, GroupOf, IdOf, KindOf, Shown, Where, corners};
+use consistent::consistent;
+pub use floods::{Flooded, Visited};
+pub use lists::Listed;
+pub use lookups::{Shown, corners};
 use refusal::Refusal;
 
-// 1 and 2 by the state, and 4 for a cell that is out of range.
-fn cell_refused(state: &[u64], cell: CellId) -> Refusal
-    ensures { result ≡ cell_refusal state.now cell }
+// 4 for a cell that is out of range, with its position.
+fn in_range(at: u64, cell: CellId) -> Result<(), Refusal>
+    ensures { outcome result ≡ ranged at cell }
 {
-    let no = consistent::consistent(state);
-    if no.number != 0 {
-        return no;
-    }
     if component::in_range(cell.coord) {
-        return refusal::none();
+        return Ok(());
     }
-    refusal::out_of_range(0, component::bad_axis(cell.coord))
+    Err(Refusal::OutOfRange(at, component::bad_axis(cell.coord)))
+}
+
+// 1 and 2 by the state, and 4 for a cell that is out of range.
+fn cell_refused(state: &[u64], cell: CellId) -> Result<(), Refusal>
+    ensures { outcome result ≡ cell_refusal state.now cell }
+{
+    consistent(state)?;
+    in_range(0, cell)
 }
 
 // The same of a first cell, and then 4 for a second one that is out of range.
-fn cells_refused(state: &[u64], from: CellId, to: CellId) -> Refusal
-    ensures { result ≡ cells_refusal state.now from to }
+fn cells_refused(state: &[u64], from: CellId, to: CellId) -> Result<(), Refusal>
+    ensures { outcome result ≡ cells_refusal state.now from to }
 {
-    let no = cell_refused(state, from);
-    if no.number != 0 {
-        return no;
-    }
-    if component::in_range(to.coord) {
-        return refusal::none();
-    }
-    refusal::out_of_range(1, component::bad_axis(to.coord))
+    cell_refused(state, from)?;
+    in_range(1, to)
+}
+
+// The rows of the occupied cells, and how many there are.
+fn cells(state: &[u64]) -> (&[u64], usize)
+    requires { Sure state.now }
+    ensures { (result.0.now ≡ cell_words state.now) × (result.1 ≡ cell_count state.now) × Cells (decode state.now).kind result.0.now result.1 (cells_in result.1 result.0.now) × (result.1 ≤ most_cells) }
+{
+    (
+        layout::cell_words(state),
+        layout::count_at(state, layout::CELL_COUNT),
+    )
 }
 
 // What touching means in the state: 6, 18 or 26.
-pub fn kind_of(state: &[u64]) -> KindOf
-    ensures { kind_told result ≡ kind_of state.now }
+pub fn kind_of(state: &[u64]) -> Result<u64, Refusal>
+    ensures { told_of result ≡ kind_of state.now }
 {
-    let no = consistent::consistent(state);
-    if no.number != 0 {
-        return KindOf::Refused(no);
-    }
-    let kind = state[layout::KIND];
-    KindOf::Is(kind)
+    consistent(state)?;
+    Ok(state[layout::KIND])
 }
 
 // Where an entity stands.
-pub fn where_is(state: &[u64], entity: u64) -> Where
-    ensures { where_told result ≡ where_of state.now entity }
+pub fn where_is(state: &[u64], entity: u64) -> Result<Option<CellId>, Refusal>
+    ensures { found_told result ≡ where_of state.now entity }
 {
-    let no = consistent::consistent(state);
-    if no.number != 0 {
-        return Where::Refused(no);
-    }
+    consistent(state)?;
     let rows = layout::entity_words(state);
     let n = layout::count_at(state, layout::ENTITY_COUNT);
-    lookups::find_entity(rows, n, entity)
+    Ok(lookups::find_entity(rows, n, entity))
 }
 
 // The id of a cell.
-pub fn id_of(state: &[u64], cell: CellId) -> IdOf
-    ensures { id_told result ≡ id_of state.now cell }
+pub fn id_of(state: &[u64], cell: CellId) -> Result<Option<u64>, Refusal>
+    ensures { found_told result ≡ id_of state.now cell }
 {
-    let no = cell_refused(state, cell);
-    if no.number != 0 {
-        return IdOf::Refused(no);
-    }
+    cell_refused(state, cell)?;
     let rows = layout::id_words(state);
     let n = layout::count_at(state, layout::ID_COUNT);
-    lookups::find_id(rows, n, component::stored(cell))
+    Ok(lookups::find_id(rows, n, component::stored(cell)))
 }
 
 // How many neighbours of a cell are occupied.
-pub fn neighbour_count(state: &[u64], cell: CellId) -> CountOf
-    ensures { count_told result ≡ count_of state.now cell }
+pub fn neighbour_count(state: &[u64], cell: CellId) -> Result<Option<u32>, Refusal>
+    ensures { found_told result ≡ count_of state.now cell }
 {
-    let no = cell_refused(state, cell);
-    if no.number != 0 {
-        return CountOf::Refused(no);
-    }
-    let rows = layout::cell_words(state);
-    let n = layout::count_at(state, layout::CELL_COUNT);
-    lookups::find_count(rows, n, component::stored(cell))
+    cell_refused(state, cell)?;
+    let (rows, n) = cells(state);
+    Ok(lookups::find_count(rows, n, component::stored(cell)))
 }
 
 // A group by id.
-pub fn group(state: &[u64], id: u64) -> GroupOf
-    ensures { group_told result ≡ group_of state.now id }
+pub fn group(state: &[u64], id: u64) -> Result<Option<Shown>, Refusal>
+    ensures { found_told result ≡ group_of state.now id }
 {
-    let no = consistent::consistent(state);
-    if no.number != 0 {
-        return GroupOf::Refused(no);
-    }
+    consistent(state)?;
     let rows = layout::group_words(state);
     let n = layout::count_at(state, layout::GROUP_COUNT);
-    lookups::find_group(rows, n, id)
+    Ok(lookups::find_group(rows, n, id))
 }
 
 // The ids, ascending.
-pub fn ids(state: &[u64], answer: &mut [u64]) -> Listing
+pub fn ids(state: &[u64], answer: &mut [u64]) -> Result<Listed, Refusal>
     ensures { (listing_told result, answer.new) ≡ ids_of state.now answer.old }
 {
-    let no = consistent::consistent(state);
-    if no.number != 0 {
-        return Listing::Refused(no);
-    }
+    consistent(state)?;
     let rows = layout::group_words(state);
     let n = layout::count_at(state, layout::GROUP_COUNT);
     lists::give_ids(rows, n, answer)
 }
 
+// Here and below C asks for each net list by a call of its own; what the two share is `give_net`.
+
 // The newly occupied cells, ascending.
-pub fn newly_occupied(state: &[u64], answer: &mut [u64]) -> Listing
+pub fn newly_occupied(state: &[u64], answer: &mut [u64]) -> Result<Listed, Refusal>
     ensures { (listing_told result, answer.new) ≡ occupied_of state.now answer.old }
 {
-    let no = consistent::consistent(state);
-    if no.number != 0 {
-        return Listing::Refused(no);
-    }
+    consistent(state)?;
     let rows = layout::occupied_words(state);
     let n = layout::count_at(state, layout::OCCUPIED_COUNT);
     lists::give_net(rows, n, answer)
 }
 
 // The newly emptied cells, ascending.
-pub fn newly_emptied(state: &[u64], answer: &mut [u64]) -> Listing
+pub fn newly_emptied(state: &[u64], answer: &mut [u64]) -> Result<Listed, Refusal>
     ensures { (listing_told result, answer.new) ≡ emptied_of state.now answer.old }
 {
-    let no = consistent::consistent(state);
-    if no.number != 0 {
-        return Listing::Refused(no);
-    }
+    consistent(state)?;
     let rows = layout::emptied_words(state);
     let n = layout::count_at(state, layout::EMPTIED_COUNT);
     lists::give_net(rows, n, answer)
 }
 
 // The entities of a cell, ascending.
-pub fn entities_in(state: &[u64], cell: CellId, answer: &mut [u64]) -> Listing
+pub fn entities_in(state: &[u64], cell: CellId, answer: &mut [u64]) -> Result<Listed, Refusal>
     ensures { (listing_told result, answer.new) ≡ entities_of state.now cell answer.old }
 {
-    let no = cell_refused(state, cell);
-    if no.number != 0 {
-        return Listing::Refused(no);
-    }
+    cell_refused(state, cell)?;
     let rows = layout::entity_words(state);
     let n = layout::count_at(state, layout::ENTITY_COUNT);
     lists::give_entities(rows, n, component::stored(cell), answer)
 }
 
 // A cell, then the occupied cells that it touches, in cell order.
-pub fn nearby(state: &[u64], cell: CellId, answer: &mut [u64]) -> Listing
+pub fn nearby(state: &[u64], cell: CellId, answer: &mut [u64]) -> Result<Listed, Refusal>
     ensures { (listing_told result, answer.new) ≡ nearby_of state.now cell answer.old }
 {
-    let no = cell_refused(state, cell);
-    if no.number != 0 {
-        return Listing::Refused(no);
-    }
-    let rows = layout::cell_words(state);
-    let n = layout::count_at(state, layout::CELL_COUNT);
+    cell_refused(state, cell)?;
+    let (rows, n) = cells(state);
     lists::give_nearby(rows, n, component::stored(cell), answer)
 }
 
 // The centre first, then its neighbours of a radius in order, occupied ones only.
-pub fn cube(state: &[u64], cell: CellId, radius: u8, answer: &mut [u64]) -> Listing
+pub fn cube(state: &[u64], cell: CellId, radius: u8, answer: &mut [u64]) -> Result<Listed, Refusal>
     ensures { (listing_told result, answer.new) ≡ cube_of state.now cell radius answer.old }
 {
-    let no = cell_refused(state, cell);
-    if no.number != 0 {
-        return Listing::Refused(no);
-    }
-    let rows = layout::cell_words(state);
-    let n = layout::count_at(state, layout::CELL_COUNT);
+    cell_refused(state, cell)?;
+    let (rows, n) = cells(state);
     lists::give_cube(rows, n, component::stored(cell), radius, answer)
 }
 
 // A flood from a seed to a depth, up to a budget of cells.
-pub fn flood(state: &[u64], seed: CellId, depth: Depth, budget: u64, answer: &mut [u64]) -> Flooding
+pub fn flood(
+    state: &[u64],
+    seed: CellId,
+    depth: Option<i32>,
+    budget: u64,
+    answer: &mut [u64],
+) -> Result<Flooded, Refusal>
     ensures { (flooding_told result, answer.new) ≡ flood_of state.now seed depth budget answer.old }
 {
-    let no = cell_refused(state, seed);
-    if no.number != 0 {
-        return Flooding::Refused(no);
-    }
-    let rows = layout::cell_words(state);
-    let n = layout::count_at(state, layout::CELL_COUNT);
+    cell_refused(state, seed)?;
+    let (rows, n) = cells(state);
     floods::give_flood(rows, n, component::stored(seed), depth, budget, answer)
 }
 
 // The path from one cell to another, both included: the fewest cells, and among as few the first in cell order. Where there is none that is
 // told by 12, before 8.
-pub fn path(state: &[u64], from: CellId, to: CellId, answer: &mut [u64]) -> Listing
+pub fn path(state: &[u64], from: CellId, to: CellId, answer: &mut [u64]) -> Result<Listed, Refusal>
     ensures { (listing_told result, answer.new) ≡ path_of state.now from to answer.old }
 {
-    let no = cells_refused(state, from, to);
-    if no.number != 0 {
-        return Listing::Refused(no);
-    }
-    let rows = layout::cell_words(state);
-    let n = layout::count_at(state, layout::CELL_COUNT);
+    cells_refused(state, from, to)?;
+    let (rows, n) = cells(state);
     lists::give_path(
         rows,
         n,

@@ -4,6 +4,7 @@
 ghost use Rattle.std.specs.Prelude.{◌≡◌, ◌+◌, ◌*◌, ◌≤◌, length, drop, ltb};
 ghost use Rattle.layout.specs.Widths.{move_width};
 ghost use Rattle.batch.specs.Words.{move_at, moves_in, batch_of, too_short, early};
+ghost use Rattle.refusal.specs.Forms.{outcome};
 ghost use Rattle.batch.specs.Places.{first_out, batch_refusal};
 
 use component::{Cell, stored_word};
@@ -41,36 +42,32 @@ pub fn too_short(state: &[u64], batch: &[u64], removals: u64, moves: u64) -> boo
     !(state_len() <= state.len()) | lacks_words(batch.len(), removals, moves)
 }
 
-// 4 by the first move that goes out of range; none where all are in range.
-fn first_out(batch: &[u64], from: usize, moves: usize) -> Refusal
+// 4 by the first move that goes out of range.
+fn first_out(batch: &[u64], from: usize, moves: usize) -> Result<(), Refusal>
     requires { from + move_width * moves ≤ length batch.now }
-    ensures { result ≡ first_out 0 (moves_in moves (drop from batch.now)) }
+    ensures { outcome result ≡ first_out 0 (moves_in moves (drop from batch.now)) }
 {
-    let mut i = 0;
-    while i < moves {
+    for i in 0..moves {
         let c = move_cell(batch, from + MOVE_WIDTH * i);
         if !component::stored_in_range(c) {
-            return refusal::out_of_range(i as u64, component::stored_bad_axis(c));
+            let axis = component::stored_bad_axis(c);
+            return Err(Refusal::OutOfRange(i as u64, axis));
         }
-        i += 1;
     }
-    refusal::none()
+    Ok(())
 }
 
-// 3, 4 and 5 in that order: too many events, a coordinate out of range with its place, too few ids left; else none.
-pub fn early_refusal(next: u64, batch: &[u64], removals: usize, moves: usize) -> Refusal
+// 3, 4 and 5 in that order: too many events, a coordinate out of range with its place, too few ids left.
+pub fn early_refusal(next: u64, batch: &[u64], removals: usize, moves: usize) -> Result<(), Refusal>
     requires { removals + move_width * moves ≤ length batch.now }
-    ensures { result ≡ batch_refusal (batch_of batch.now removals moves) (early next (batch_of batch.now removals moves)) }
+    ensures { outcome result ≡ batch_refusal (batch_of batch.now removals moves) (early next (batch_of batch.now removals moves)) }
 {
     if removals + moves > MOST_EVENTS {
-        return refusal::plain(3);
+        return Err(Refusal::TooManyEvents);
     }
-    let out = first_out(batch, removals, moves);
-    if out.number != 0 {
-        return out;
-    }
+    first_out(batch, removals, moves)?;
     if next > MOST_NEXT_ID {
-        return refusal::few_ids();
+        return Err(Refusal::FewIds);
     }
-    refusal::none()
+    Ok(())
 }

@@ -6,9 +6,10 @@ use Rattle.model.specs.Occupancy.{Occupancy, Event, play}
 use Rattle.model.specs.Update.{most_entities, most_cells, broken_by}
 use Rattle.model.specs.Facts.{Asc, Net, Within}
 use Rattle.layout.specs.Widths.{entity_width, cell_width, net_width, crowd_width}
+use Rattle.refusal.specs.Forms.{Refused, plain}
 use Rattle.map.specs.declared.Counts.{Counts}
+use Rattle.map.specs.declared.Tables.{Tables}
 use Rattle.map.specs.Held.{Held}
-use Rattle.batch_events.specs.declared.Played.{Played}
 
 -- 6 for too many entities, 7 for too many occupied cells, 0 for neither.
 unfoldable pub judged : Counts → ℕ
@@ -38,7 +39,19 @@ pub record Going (kind : ℕ) (ents cells crowd occ emp : List ℕ) (n : Counts)
   pub broken : broken_by (touch_at kind) o es ≡ broken_by (touch_at kind) at left
   pub ends : run (play (touch_at kind)) o es ≡ run (play (touch_at kind)) at left
 
--- What playing the events es from o comes to: the number of the first that breaks a limit, and where none does, the occupancy after them.
-pub record Outcome (kind : ℕ) (ents cells crowd occ emp : List ℕ) (r : Played) (was : List Cell) (o : Occupancy) (es : List Event) : Type 0 where
-  pub number : r.number ≡ broken_by (touch_at kind) o es
-  pub ready : r.number ≡ 0 → Ready kind ents cells crowd occ emp r.counts was (run (play (touch_at kind)) o es)
+-- What playing the events es from o comes to: the number of the first that breaks a limit, which tells no place, and where none does, the occupancy after them.
+pub record Outcome (kind : ℕ) (ents cells crowd occ emp : List ℕ) (n : Counts) (r : Refused) (was : List Cell) (o : Occupancy) (es : List Event) : Type 0 where
+  pub number : r ≡ plain (broken_by (touch_at kind) o es)
+  pub ready : r.number ≡ 0 → Ready kind ents cells crowd occ emp n was (run (play (touch_at kind)) o es)
+
+-- The tables are ready.
+abbrev pub ReadyIn : Tables → List Cell → Occupancy → Type 0
+ReadyIn t was o = Ready t.kind t.entities.now t.cells.now t.crowd.now t.occupied.now t.emptied.now t.counts was o
+
+-- The tables are on the way.
+abbrev pub GoingIn : Tables → List Cell → Occupancy → List Event → List Event → Type 0
+GoingIn t was o es left = Going t.kind t.entities.now t.cells.now t.crowd.now t.occupied.now t.emptied.now t.counts was o es left
+
+-- What playing the events comes to in the tables.
+abbrev pub OutcomeIn : Tables → Refused → List Cell → Occupancy → List Event → Type 0
+OutcomeIn t r was o es = Outcome t.kind t.entities.now t.cells.now t.crowd.now t.occupied.now t.emptied.now t.counts r was o es

@@ -1,106 +1,65 @@
 // The events of a batch, played one after the other on the tables of a map, up to the first that breaks a limit.
 #![tactic(auto)]
 
-ghost use Rattle.std.specs.Prelude.{◌≡◌, true, cond, List, ◌+◌, ◌*◌, ◌≤◌, length, drop};
+ghost use Rattle.std.specs.Prelude.{◌≡◌, true, List, ◌+◌, ◌*◌, ◌≤◌, length, drop};
 ghost use Rattle.model.specs.Lists.{all};
 ghost use Rattle.model.specs.Cells.{Cell, touch_at};
 ghost use Rattle.model.specs.Occupancy.{Occupancy, play, events};
 ghost use Rattle.layout.specs.Widths.{move_width};
+ghost use Rattle.refusal.specs.Forms.{plain, outcome};
 ghost use Rattle.batch.specs.Words.{moves_in, batch_of};
-ghost use Rattle.map.specs.Held.{Held};
+ghost use Rattle.map.specs.Tables.{HeldIn, Kept};
 ghost use Rattle.batch_events.specs.Events.{in_range, event_at, EventFits};
-ghost use Rattle.batch_events.specs.Playing.{judged, Ready, Outcome};
+ghost use Rattle.batch_events.specs.Playing.{judged, ReadyIn, OutcomeIn};
 
 use batch::move_cell;
 use layout::{MOST_CELLS, MOST_ENTITIES, MOVE_WIDTH};
-use map::{Counts, play_move, play_removal};
+use map::{Counts, Tables};
+use refusal::Refusal;
 
-// The counts after some events, and the number of the first that breaks a limit, 0 where none does.
-#[derive(Clone, Copy)]
-pub struct Played {
-    pub counts: Counts,
-    pub number: u64,
-}
-
-// The number of the first test that holds, 0 where neither does.
-fn first_of(a: bool, m: u64, b: bool, n: u64) -> u64
-    ensures { result ≡ cond a m (cond b n 0) }
+// Whether too many entities stand, or too many cells are occupied.
+#[tactic(auto, unfolding(crate::specs::Playing::judged))]
+fn judge(n: Counts) -> Result<(), Refusal>
+    ensures { outcome result ≡ plain (judged n) }
 {
-    if a {
-        return m;
+    if n.entities > MOST_ENTITIES {
+        return Err(Refusal::TooManyEntities);
     }
-    if b {
-        return n;
+    if n.cells > MOST_CELLS {
+        return Err(Refusal::TooManyCells);
     }
-    0
-}
-
-// 6 for too many entities, 7 for too many occupied cells, 0 for neither.
-fn judge(n: Counts) -> u64
-    ensures { result ≡ judged n }
-{
-    let entities = n.entities;
-    let cells = n.cells;
-    first_of(entities > MOST_ENTITIES, 6, cells > MOST_CELLS, 7)
+    Ok(())
 }
 
 // Event k of a batch: the removals come first, one word each, then the moves, five words each.
-fn play_event(
-    ents: &mut [u64],
-    cells: &mut [u64],
-    crowd: &mut [u64],
-    occ: &mut [u64],
-    emp: &mut [u64],
-    batch: &[u64],
-    n: Counts,
-    kind: u64,
-    removals: usize,
-    k: usize,
-) -> Counts
-    requires { (was : List Cell) × (o : Occupancy) × Ready kind ents.old cells.old crowd.old occ.old emp.old n was o × EventFits batch.now removals k }
-    ensures { (o : Occupancy) → Held kind ents.old cells.old crowd.old occ.old emp.old n o → Held kind ents.new cells.new crowd.new occ.new emp.new result (play (touch_at kind) o (event_at batch.now removals k)) }
+fn play_event(tables: &mut Tables<'_>, batch: &[u64], removals: usize, k: usize)
+    requires { (was : List Cell) × (o : Occupancy) × ReadyIn tables.old was o × EventFits batch.now removals k }
+    ensures kept { Kept tables.old tables.new }
+    ensures held { (o : Occupancy) → HeldIn tables.old o → HeldIn tables.new (play (touch_at tables.old.kind) o (event_at batch.now removals k)) }
 {
     if k < removals {
-        return play_removal(ents, cells, crowd, occ, emp, n, kind, batch[k]);
+        tables.play_removal(batch[k]);
+    } else {
+        let at = removals + MOVE_WIDTH * (k - removals);
+        let c = move_cell(batch, at);
+        tables.play_move(batch[at], c);
     }
-    let at = removals + MOVE_WIDTH * (k - removals);
-    let c = move_cell(batch, at);
-    play_move(ents, cells, crowd, occ, emp, n, kind, batch[at], c)
 }
 
 // The events of a batch, up to the first that breaks a limit; each is judged on what it leaves.
 pub fn play_batch(
-    ents: &mut [u64],
-    cells: &mut [u64],
-    crowd: &mut [u64],
-    occ: &mut [u64],
-    emp: &mut [u64],
+    tables: &mut Tables<'_>,
     batch: &[u64],
-    n: Counts,
-    kind: u64,
     removals: usize,
     moves: usize,
-) -> Played
-    requires { (was : List Cell) × (o : Occupancy) × Ready kind ents.old cells.old crowd.old occ.old emp.old n was o × (removals + move_width * moves ≤ length batch.now) × (all in_range (moves_in moves (drop removals batch.now)) ≡ true) }
-    ensures { (was : List Cell) (o : Occupancy) → Ready kind ents.old cells.old crowd.old occ.old emp.old n was o → Outcome kind ents.new cells.new crowd.new occ.new emp.new result was o (events (batch_of batch.now removals moves)) }
+) -> Result<(), Refusal>
+    requires { (was : List Cell) × (o : Occupancy) × ReadyIn tables.old was o × (removals + move_width * moves ≤ length batch.now) × (all in_range (moves_in moves (drop removals batch.now)) ≡ true) }
+    ensures kept { Kept tables.old tables.new }
+    ensures ends { (was : List Cell) (o : Occupancy) → ReadyIn tables.old was o → OutcomeIn tables.new (outcome result) was o (events (batch_of batch.now removals moves)) }
 {
-    let end = removals + moves;
-    let mut c = n;
-    let mut i = 0;
-    while i < end {
-        let d = play_event(ents, cells, crowd, occ, emp, batch, c, kind, removals, i);
-        let k = judge(d);
-        if k != 0 {
-            return Played {
-                counts: d,
-                number: k,
-            };
-        }
-        c = d;
-        i += 1;
+    for i in 0..removals + moves {
+        play_event(tables, batch, removals, i);
+        judge(tables.counts)?;
     }
-    Played {
-        counts: c,
-        number: 0,
-    }
+    Ok(())
 }

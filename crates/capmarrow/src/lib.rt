@@ -29,7 +29,7 @@ pub extern "C" fn capmarrow_fresh(
         return 1;
     }
     let r = fresh::fresh(state, first_id, kind);
-    telling::tell_refusal(told, r)
+    telling::tell_outcome(told, r)
 }
 
 // A batch of removals, one word each, and moves, five words each, updates the state. Told: 0, 0, 0.
@@ -47,7 +47,7 @@ pub extern "C" fn capmarrow_update(
         return 1;
     }
     let r = yard::update(state, batch, removals, moves);
-    telling::tell_refusal(told, r)
+    telling::tell_outcome(told, r)
 }
 
 // Whether a state is consistent: 0, or 2 and its first broken point. Told: 0, the point, 0.
@@ -58,7 +58,7 @@ pub extern "C" fn capmarrow_consistent(state: &[u64], told: &mut [u64]) -> u64
     if told.len() < 3 {
         return 1;
     }
-    telling::tell_refusal(told, consistent::consistent(state))
+    telling::tell_outcome(told, consistent::consistent(state))
 }
 
 // What touching means in a state. Told: 1, and 6, 18 or 26.

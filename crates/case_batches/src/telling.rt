@@ -1,102 +1,121 @@
 // What is found is told to a writer, in `cases` standard output: a line for each heading, and one for each answer that differs.
-use crate::desk::{ALL_ASKED, ALL_DIFFERING, ASKED, DESK_LEN, DIFFERING, LINE, one_more};
-use case_rows::writing::TEXT_LEN;
+use case_rows::writing::Text;
 use std::io;
 use std::io::Write;
 
-// Text is told.
-fn say<W: Write>(out: &mut W, text: &[u8]) -> io::Result<()> {
-    out.write_all(text)
+// How many rows asked, and of how many the answer differed.
+#[derive(Clone, Copy, Debug, PartialEq, Eq)]
+struct Count {
+    asked: u64,
+    differing: u64,
 }
 
-// How many rows asked, and how many answers differed.
-fn say_counts<W: Write>(out: &mut W, asked: u64, differing: u64) -> io::Result<()> {
-    write!(out, "{asked}")?;
-    say(out, b" asked, ")?;
-    if differing == 0 {
-        return say(out, b"none differs\n");
+impl Count {
+    const NONE: Count = Count {
+        asked: 0,
+        differing: 0,
+    };
+
+    fn add(&mut self, other: Count) {
+        self.asked = self.asked.wrapping_add(other.asked);
+        self.differing = self.differing.wrapping_add(other.differing);
     }
-    write!(out, "{differing}")?;
-    say(out, b" DIFFER\n")
-}
 
-// The name of a file on a line of its own.
-pub fn begin_file<W: Write>(out: &mut W, name: &[u8]) -> io::Result<()> {
-    say(out, name)?;
-    say(out, b"\n")
-}
-
-// What was found below the heading that ends is told, and counted in all.
-pub fn close<W: Write>(out: &mut W, desk: &mut [u64; DESK_LEN]) -> io::Result<()> {
-    let asked = desk[ASKED];
-    let differing = desk[DIFFERING];
-    if differing != 0 {
-        say(out, b"\n")?;
-        say_counts(out, asked, differing)?;
-    } else if asked != 0 {
-        say(out, b": ")?;
-        say_counts(out, asked, differing)?;
+    fn say<W: Write>(self, out: &mut W) -> io::Result<()> {
+        let asked = self.asked;
+        let differing = self.differing;
+        write!(out, "{asked} asked, ")?;
+        if differing == 0 {
+            return writeln!(out, "none differs");
+        }
+        writeln!(out, "{differing} DIFFER")
     }
-    desk[ALL_ASKED] = std::num::wrapping_add_u64(desk[ALL_ASKED], asked);
-    desk[ALL_DIFFERING] = std::num::wrapping_add_u64(desk[ALL_DIFFERING], differing);
-    desk[ASKED] = 0;
-    desk[DIFFERING] = 0;
-    Ok(())
 }
 
-// A heading, which ends the one before it.
-pub fn heading<W: Write>(out: &mut W, desk: &mut [u64; DESK_LEN], line: &[u8]) -> io::Result<()> {
-    close(out, desk)?;
-    say(out, line)
+// What was found: below the heading that stands last, and in all; and which line is played.
+#[derive(Clone, Copy)]
+pub struct Report {
+    line: u64,
+    here: Count,
+    all: Count,
 }
 
-// A row that differs, with what is told of it.
-fn say_row<W: Write>(
-    out: &mut W,
-    desk: &mut [u64; DESK_LEN],
-    line: &[u8],
-    found: &[u8],
-) -> io::Result<()> {
-    one_more(desk, DIFFERING);
-    say(out, b"\nline ")?;
-    write!(out, "{}", desk[LINE])?;
-    say(out, b" DIFFERS: ")?;
-    say(out, line)?;
-    say(out, b"\n    found: ")?;
-    say(out, found)
-}
-
-// A row that says nothing known.
-pub fn no_such_row<W: Write>(
-    out: &mut W,
-    desk: &mut [u64; DESK_LEN],
-    line: &[u8],
-) -> io::Result<()> {
-    say_row(out, desk, line, b"no such row")
-}
-
-// What is found, in the first bytes of a buffer, is compared with what is expected.
-pub fn judge<W: Write>(
-    out: &mut W,
-    desk: &mut [u64; DESK_LEN],
-    line: &[u8],
-    expected: &[u8],
-    text: &[u8; TEXT_LEN],
-    used: usize,
-) -> io::Result<()> {
-    let all = &text[..];
-    one_more(desk, ASKED);
-    if used <= all.len() {
-        let found = &all[0..used];
-        if expected != found {
-            return say_row(out, desk, line, found);
+impl Report {
+    pub fn new() -> Report {
+        Report {
+            line: 0,
+            here: Count::NONE,
+            all: Count::NONE,
         }
     }
-    Ok(())
-}
 
-// The last line: all that was asked, and how much of it differed.
-pub fn tell_all<W: Write>(out: &mut W, desk: &[u64; DESK_LEN]) -> io::Result<()> {
-    say(out, b"in all ")?;
-    say_counts(out, desk[ALL_ASKED], desk[ALL_DIFFERING])
+    // The name of a file on a line of its own.
+    pub fn begin_file<W: Write>(&mut self, out: &mut W, name: &[u8]) -> io::Result<()> {
+        self.line = 0;
+        out.write_all(name)?;
+        writeln!(out)
+    }
+
+    // The next line is played.
+    pub fn next_line(&mut self) {
+        self.line = self.line.wrapping_add(1);
+    }
+
+    // What was found below the heading that ends is told, and counted in all.
+    pub fn close<W: Write>(&mut self, out: &mut W) -> io::Result<()> {
+        let here = self.here;
+        if here.differing != 0 {
+            writeln!(out)?;
+            here.say(out)?;
+        } else if here.asked != 0 {
+            write!(out, ": ")?;
+            here.say(out)?;
+        }
+        self.all.add(here);
+        self.here = Count::NONE;
+        Ok(())
+    }
+
+    // A heading, which ends the one before it.
+    pub fn heading<W: Write>(&mut self, out: &mut W, line: &[u8]) -> io::Result<()> {
+        self.close(out)?;
+        out.write_all(line)
+    }
+
+    // A row that differs, with what is told of it.
+    fn say_row<W: Write>(&mut self, out: &mut W, line: &[u8], found: &[u8]) -> io::Result<()> {
+        self.here.differing = self.here.differing.wrapping_add(1);
+        let number = self.line;
+        write!(out, "\nline {number} DIFFERS: ")?;
+        out.write_all(line)?;
+        write!(out, "\n    found: ")?;
+        out.write_all(found)
+    }
+
+    // A row that says nothing known.
+    pub fn no_such_row<W: Write>(&mut self, out: &mut W, line: &[u8]) -> io::Result<()> {
+        self.say_row(out, line, b"no such row")
+    }
+
+    // What is found is compared with what is expected.
+    pub fn judge<W: Write>(
+        &mut self,
+        out: &mut W,
+        line: &[u8],
+        expected: &[u8],
+        text: &Text,
+    ) -> io::Result<()> {
+        self.here.asked = self.here.asked.wrapping_add(1);
+        let found = text.as_slice();
+        if expected != found {
+            return self.say_row(out, line, found);
+        }
+        Ok(())
+    }
+
+    // The last line: all that was asked, and how much of it differed.
+    pub fn tell_all<W: Write>(&self, out: &mut W) -> io::Result<()> {
+        write!(out, "in all ")?;
+        self.all.say(out)
+    }
 }

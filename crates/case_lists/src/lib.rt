@@ -2,4 +2,3 @@
 #![tactic(auto)]
 
 pub mod items;
-pub mod sorting;

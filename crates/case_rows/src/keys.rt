@@ -1,121 +1,172 @@
-// The words that rows are made of, each letter a byte of a number: "id" is 0x6964. Of a longer word the last eight letters count.
+// The words that rows are made of.
 
-// Rows that say how much is lent from there on.
-pub const SHORT: u64 = 0x73686f7274;
+#[derive(Clone, Copy, Debug, PartialEq, Eq)]
+pub enum Word {
+    // No word, and a word that says nothing known.
+    Nothing,
+    Unknown,
 
-pub const LONG: u64 = 0x6c6f6e67;
+    // Rows that say how much is lent from there on.
+    Short,
+    Long,
+    Lend,
+    Room,
+    Slice,
+    Scratch,
 
-pub const LEND: u64 = 0x6c656e64;
+    // Rows that change the yard by hand.
+    Fill,
+    Set,
+    Rows,
+    Next,
+    Kind,
+    Spare,
+    Behind,
 
-pub const ROOM: u64 = 0x726f6f6d;
+    // The tables, and the words of their rows.
+    Entities,
+    Cells,
+    Occupied,
+    Emptied,
+    Ids,
+    Groups,
+    Entity,
+    Grid,
+    X,
+    Y,
+    Z,
+    Mask,
+    Id,
+    Count,
+    LowX,
+    LowY,
+    LowZ,
+    HighX,
+    HighY,
+    HighZ,
 
-// Rows that change the yard by hand.
-pub const FILL: u64 = 0x66696c6c;
+    // Rows that draft a yard, and those that put one yard in the place of another.
+    Blank,
+    Cell,
+    Entered,
+    Left,
+    Record,
+    Take,
+    Keep,
+    Back,
 
-pub const SET: u64 = 0x736574;
+    // Rows that gather a batch.
+    Remove,
+    Move,
+    Told,
+    Batch,
 
-pub const ROWS: u64 = 0x726f7773;
+    // Rows that ask; some of their words stand above.
+    Fresh,
+    Update,
+    Draft,
+    Consistent,
+    Where,
+    Share,
+    Group,
+    Of,
+    Nearby,
+    Cube,
+    Flood,
+    Depth,
+    Sorted,
+    Path,
 
-pub const NEXT: u64 = 0x6e657874;
+    // Rows about stored settings.
+    Read,
+    Write,
+    Put,
+    Old,
+    Bytes,
+    Words,
+}
 
-pub const KIND: u64 = 0x6b696e64;
+impl Word {
+    // The word of these letters. Of more than eight the last eight count, so "consistent" is known by "nsistent".
+    pub fn of(letters: &[u8]) -> Word {
+        let last = letters.len().saturating_sub(8);
+        match &letters[last..] {
+            b"" => Word::Nothing,
+            b"short" => Word::Short,
+            b"long" => Word::Long,
+            b"lend" => Word::Lend,
+            b"room" => Word::Room,
+            b"slice" => Word::Slice,
+            b"scratch" => Word::Scratch,
+            b"fill" => Word::Fill,
+            b"set" => Word::Set,
+            b"rows" => Word::Rows,
+            b"next" => Word::Next,
+            b"kind" => Word::Kind,
+            b"spare" => Word::Spare,
+            b"behind" => Word::Behind,
+            b"entities" => Word::Entities,
+            b"cells" => Word::Cells,
+            b"occupied" => Word::Occupied,
+            b"emptied" => Word::Emptied,
+            b"ids" => Word::Ids,
+            b"groups" => Word::Groups,
+            b"entity" => Word::Entity,
+            b"grid" => Word::Grid,
+            b"x" => Word::X,
+            b"y" => Word::Y,
+            b"z" => Word::Z,
+            b"mask" => Word::Mask,
+            b"id" => Word::Id,
+            b"count" => Word::Count,
+            b"lowx" => Word::LowX,
+            b"lowy" => Word::LowY,
+            b"lowz" => Word::LowZ,
+            b"highx" => Word::HighX,
+            b"highy" => Word::HighY,
+            b"highz" => Word::HighZ,
+            b"blank" => Word::Blank,
+            b"cell" => Word::Cell,
+            b"entered" => Word::Entered,
+            b"left" => Word::Left,
+            b"record" => Word::Record,
+            b"take" => Word::Take,
+            b"keep" => Word::Keep,
+            b"back" => Word::Back,
+            b"remove" => Word::Remove,
+            b"move" => Word::Move,
+            b"told" => Word::Told,
+            b"batch" => Word::Batch,
+            b"fresh" => Word::Fresh,
+            b"update" => Word::Update,
+            b"draft" => Word::Draft,
+            b"nsistent" => Word::Consistent,
+            b"where" => Word::Where,
+            b"share" => Word::Share,
+            b"group" => Word::Group,
+            b"of" => Word::Of,
+            b"nearby" => Word::Nearby,
+            b"cube" => Word::Cube,
+            b"flood" => Word::Flood,
+            b"depth" => Word::Depth,
+            b"sorted" => Word::Sorted,
+            b"path" => Word::Path,
+            b"read" => Word::Read,
+            b"write" => Word::Write,
+            b"put" => Word::Put,
+            b"old" => Word::Old,
+            b"bytes" => Word::Bytes,
+            b"words" => Word::Words,
+            _ => Word::Unknown,
+        }
+    }
 
-pub const SPARE: u64 = 0x7370617265;
-
-pub const BEHIND: u64 = 0x626568696e64;
-
-// The tables, and the words of their rows.
-pub const ENTITIES: u64 = 0x656e746974696573;
-
-pub const CELLS: u64 = 0x63656c6c73;
-
-pub const OCCUPIED: u64 = 0x6f63637570696564;
-
-pub const EMPTIED: u64 = 0x656d7074696564;
-
-pub const IDS: u64 = 0x696473;
-
-pub const GROUPS: u64 = 0x67726f757073;
-
-pub const ENTITY: u64 = 0x656e74697479;
-
-pub const GRID: u64 = 0x67726964;
-
-pub const X: u64 = 0x78;
-
-pub const Y: u64 = 0x79;
-
-pub const Z: u64 = 0x7a;
-
-pub const MASK: u64 = 0x6d61736b;
-
-pub const ID: u64 = 0x6964;
-
-pub const COUNT: u64 = 0x636f756e74;
-
-pub const LOWX: u64 = 0x6c6f7778;
-
-pub const LOWY: u64 = 0x6c6f7779;
-
-pub const LOWZ: u64 = 0x6c6f777a;
-
-pub const HIGHX: u64 = 0x6869676878;
-
-pub const HIGHY: u64 = 0x6869676879;
-
-pub const HIGHZ: u64 = 0x686967687a;
-
-// Rows that draft a yard, and those that put one yard in the place of another.
-pub const BLANK: u64 = 0x626c616e6b;
-
-pub const CELL: u64 = 0x63656c6c;
-
-pub const ENTERED: u64 = 0x656e7465726564;
-
-pub const LEFT: u64 = 0x6c656674;
-
-pub const RECORD: u64 = 0x7265636f7264;
-
-pub const TAKE: u64 = 0x74616b65;
-
-pub const KEEP: u64 = 0x6b656570;
-
-pub const BACK: u64 = 0x6261636b;
-
-// Rows that gather a batch.
-pub const REMOVE: u64 = 0x72656d6f7665;
-
-pub const MOVE: u64 = 0x6d6f7665;
-
-pub const TOLD: u64 = 0x746f6c64;
-
-pub const BATCH: u64 = 0x6261746368;
-
-// Rows that ask; some of their words stand above.
-pub const FRESH: u64 = 0x6672657368;
-
-pub const UPDATE: u64 = 0x757064617465;
-
-pub const DRAFT: u64 = 0x6472616674;
-
-pub const CONSISTENT: u64 = 0x6e73697374656e74;
-
-pub const WHERE: u64 = 0x7768657265;
-
-pub const SHARE: u64 = 0x7368617265;
-
-pub const GROUP: u64 = 0x67726f7570;
-
-pub const OF: u64 = 0x6f66;
-
-pub const NEARBY: u64 = 0x6e6561726279;
-
-pub const CUBE: u64 = 0x63756265;
-
-pub const FLOOD: u64 = 0x666c6f6f64;
-
-pub const DEPTH: u64 = 0x6465707468;
-
-pub const SORTED: u64 = 0x736f72746564;
-
-pub const PATH: u64 = 0x70617468;
+    // The word whose letters are the bytes of a number.
+    pub fn spelt(n: u64) -> Word {
+        let bytes = n.to_be_bytes();
+        match bytes.iter().position(|b| *b != 0) {
+            Some(first) => Word::of(&bytes[first..]),
+            None => Word::Nothing,
+        }
+    }
+}

@@ -1,7 +1,7 @@
-// The rows of the cases: words, numbers and lines, read and written, and a yard's words.
+// The rows of the cases: their words and numbers, a yard's words, and the text of an answer.
 #![tactic(auto)]
 
 pub mod keys;
 pub mod reading;
-pub mod words;
 pub mod writing;
+pub mod yards;

@@ -1,267 +1,159 @@
 // The rows of a text, and the numbers and words of a row.
-ghost use Rattle.std.specs.Prelude.{◌<◌, ◌≤◌, length, take, IfOk};
-ghost use Rattle.std.specs.Io.KnownBytes.{Consumes, IsAtEnd};
+ghost use Rattle.std.specs.Prelude.{◌≤◌, length};
+ghost use Rattle.std.specs.Iterator.{at_most};
 
-use std::io;
-use std::io::Read;
+use crate::keys::Word;
 
-// What is read of a row: its numbers, how often it is done, by how much each number grows each time, and its words.
-pub const TIMES: usize = 32;
-
-pub const STEPS: usize = 33;
-
-pub const WORDS: usize = 64;
-
-pub const ROW_LEN: usize = 72;
-
-// Bytes are read until a buffer is full or the reader is at its end; how many of the buffer they take.
-pub fn read_full<R: Read>(reader: &mut R, buf: &mut [u8]) -> io::Result<usize>
-    ensures bound { IfOk result (λ n. n ≤ length buf.new) }
-    ensures bytes { IfOk result (λ n. Consumes (R.remaining reader.old) (R.remaining reader.new) (take n buf.new)) }
-    ensures end { IfOk result (λ n. n < length buf.new → IsAtEnd (R.remaining reader.new)) }
+// The row of a line: before the note that a percent sign begins, and the spaces before it.
+pub fn row_of(line: &[u8]) -> &[u8]
+    ensures { length result.now ≤ length line.now }
 {
-    let mut done = 0;
-    while done < buf.len() {
-        let n = reader.read(&mut buf[done..])?;
-        if n == 0 {
-            break;
-        }
-        done += n;
+    let end = line.iter().position(|b| *b == b'%').unwrap_or(line.len());
+    let row = &line[..end];
+    match row.iter().rposition(|b| *b != b' ') {
+        Some(last) => &row[..=last],
+        None => b"",
     }
-    Ok(done)
 }
 
-// The first place of a byte; the length where it stands nowhere.
-pub fn find(text: &[u8], b: u8) -> usize
-    ensures { result ≤ length text.now }
+// The lines of a text that are whole, up to its last newline.
+pub fn whole_lines(text: &[u8]) -> &[u8]
+    ensures { length result.now ≤ length text.now }
 {
-    let mut i = 0;
-    while i < text.len() {
-        if text[i] == b {
-            return i;
-        }
-        i += 1;
+    match text.iter().rposition(|b| *b == b'\n') {
+        Some(last) => &text[..=last],
+        None => b"",
     }
-    i
 }
 
-// Where the line that begins at a place ends: before a newline, or where the text does.
-pub fn line_end(text: &[u8], from: usize) -> usize
-    requires { from ≤ length text.now }
-    ensures { (from ≤ result) × (result ≤ length text.now) }
-{
-    let mut i = from;
-    while i < text.len() {
-        if text[i] == b'\n' {
-            return i;
-        }
-        i += 1;
-    }
-    i
-}
-
-// Where the line behind one begins, which runs from a place to its end.
-pub fn after_line(text: &[u8], from: usize, end: usize) -> usize
-    requires { (from < length text.now) × (from ≤ end) × (end ≤ length text.now) }
-    ensures { (from < result) × (result ≤ length text.now) }
-{
-    if end < text.len() { end + 1 } else { end }
-}
-
-// How many bytes of a text are whole lines: up to its last newline.
-pub fn whole_lines(text: &[u8]) -> usize
-    ensures { result ≤ length text.now }
-{
-    let mut n = text.len();
-    while 0 < n {
-        if text[n - 1] == b'\n' {
-            return n;
-        }
-        n -= 1;
-    }
-    0
-}
-
-// Where a line ends without the spaces before a place.
-fn without_spaces(line: &[u8], end: usize) -> usize
-    requires { end ≤ length line.now }
-    ensures { result ≤ length line.now }
-{
-    let mut n = end;
-    while 0 < n {
-        if line[n - 1] != b' ' {
-            return n;
-        }
-        n -= 1;
-    }
-    0
-}
-
-// Where the row of a line ends: before the note that a percent sign begins, and the spaces before it.
-pub fn row_end(line: &[u8]) -> usize
-    ensures { result ≤ length line.now }
-{
-    without_spaces(line, find(line, b'%'))
-}
-
-// A byte as a number.
-fn wide(b: u8) -> u64 {
-    b as u64
-}
-
-// What a byte belongs to.
-const NOTHING: u64 = 0;
-
-const A_WORD: u64 = 1;
-
-const A_NUMBER: u64 = 2;
-
-// How far a row is read: where the next number and the next word come to stand; of the one that is being read its place, its value so
-// far and what it is; and whether a minus stands before it.
+// What a line is made of: runs of small letters, runs of digits, and other signs.
 #[derive(Clone, Copy)]
-pub struct Reading {
-    pub number: usize,
-    pub word: usize,
-    pub at: usize,
-    pub value: u64,
-    pub kind: u64,
-    pub minus: bool,
+enum Token<'a> {
+    Letters(&'a [u8]),
+    Digits(&'a [u8]),
+    Sign(u8),
 }
 
-// Ten times a number and a digit, without what passes 2^64.
-fn with_digit(n: u64, digit: u64) -> u64 {
-    let two = std::num::wrapping_add_u64(n, n);
-    let four = std::num::wrapping_add_u64(two, two);
-    let eight = std::num::wrapping_add_u64(four, four);
-    let ten = std::num::wrapping_add_u64(eight, two);
-    std::num::wrapping_add_u64(ten, digit)
+#[derive(Clone, Copy)]
+struct Tokens<'a> {
+    rest: &'a [u8],
 }
 
-// The next place.
-fn next(place: usize) -> usize {
-    std::num::wrapping_add_usize(place, 1)
-}
+impl<'a> Iterator for Tokens<'a> {
+    type Item = Token<'a>;
 
-// A digit is read.
-fn digit(r: Reading, d: u64) -> Reading {
-    let number = r.number;
-    let word = r.word;
-    let minus = r.minus;
-    if r.kind == A_NUMBER {
-        return Reading {
-            number,
-            word,
-            at: r.at,
-            value: with_digit(r.value, d),
-            kind: A_NUMBER,
-            minus,
+    ghost remaining = { λ s. at_most (length s.rest.now) };
+
+    fn next(&mut self) -> Option<Token<'a>> {
+        let text = self.rest;
+        let (first, behind) = text.split_first()?;
+        let more = if first.is_ascii_lowercase() {
+            behind.iter().position(|b| !b.is_ascii_lowercase())
+        } else if first.is_ascii_digit() {
+            behind.iter().position(|b| !b.is_ascii_digit())
+        } else {
+            Some(0)
         };
-    }
-    Reading {
-        number: next(number),
-        word,
-        at: number,
-        value: d,
-        kind: A_NUMBER,
-        minus,
+        let n = more.unwrap_or(behind.len());
+        self.rest = &behind[n..];
+        let run = &text[..=n];
+        Some(if first.is_ascii_lowercase() {
+            Token::Letters(run)
+        } else if first.is_ascii_digit() {
+            Token::Digits(run)
+        } else {
+            Token::Sign(*first)
+        })
     }
 }
 
-// A small letter is read; of a word's letters those before the last eight are lost.
-fn letter(r: Reading, b: u64) -> Reading {
-    let number = r.number;
-    let word = r.word;
-    if r.kind == A_WORD {
-        return Reading {
-            number,
-            word,
-            at: r.at,
-            value: std::num::wrapping_add_u64(r.value % 72057594037927936 * 256, b),
-            kind: A_WORD,
-            minus: false,
+// The number of these digits, without what passes 2^64.
+fn number_of(digits: &[u8]) -> u64 {
+    digits.iter().fold(0u64, |n, b| {
+        n.wrapping_mul(10)
+            .wrapping_add(u64::from(b.wrapping_sub(b'0')))
+    })
+}
+
+// How many numbers a row has; all but the last grow.
+const NUMBERS: usize = 32;
+
+const STEPS: usize = 31;
+
+// Where a number comes to stand that says how often a row is done.
+const TIMES: usize = NUMBERS;
+
+const WORDS: usize = 3;
+
+// A row: its numbers, how often it is done, by how much each number grows each time, and its words.
+#[derive(Clone, Copy)]
+pub struct Row {
+    pub numbers: [u64; NUMBERS],
+    pub times: u64,
+    pub steps: [u64; STEPS],
+    pub words: [Word; WORDS],
+}
+
+impl Row {
+    // The numbers and the words of a line. What stands behind a star says how often the row is done, and by which steps.
+    pub fn read(line: &[u8]) -> Row {
+        let mut row = Row {
+            numbers: [0; NUMBERS],
+            times: 0,
+            steps: [0; STEPS],
+            words: [Word::Nothing; WORDS],
         };
+        let mut number = 0usize;
+        let mut word = 0usize;
+        let mut is_negative = false;
+        for token in (Tokens { rest: line }) {
+            match token {
+                Token::Letters(letters) => {
+                    row.put_word(word, Word::of(letters));
+                    word = word.saturating_add(1);
+                    is_negative = false;
+                }
+                Token::Digits(digits) => {
+                    let n = number_of(digits);
+                    row.put_number(number, if is_negative { n.wrapping_neg() } else { n });
+                    number = number.saturating_add(1);
+                    is_negative = false;
+                }
+                Token::Sign(sign) => {
+                    if sign == b'*' {
+                        number = TIMES;
+                    }
+                    is_negative = sign == b'-';
+                }
+            }
+        }
+        row
     }
-    Reading {
-        number,
-        word: next(word),
-        at: word,
-        value: b,
-        kind: A_WORD,
-        minus: false,
-    }
-}
 
-// Another sign is read. What stands behind a star says how often the row is done.
-fn sign(r: Reading, b: u64) -> Reading {
-    let number = r.number;
-    Reading {
-        number: if b == 42 { TIMES } else { number },
-        word: r.word,
-        at: 0,
-        value: 0,
-        kind: NOTHING,
-        minus: b == 45,
+    // A word comes to stand in its place, where there is one.
+    fn put_word(&mut self, place: usize, w: Word) {
+        if let Some(word) = self.words.get_mut(place) {
+            *word = w;
+        }
     }
-}
 
-// A byte is read.
-fn taken(r: Reading, b: u64) -> Reading {
-    if b < 48 || 122 < b {
-        return sign(r, b);
+    // A number comes to stand in its place: one that counts or is a step behind the numbers, and a word by its bytes behind these.
+    fn put_number(&mut self, place: usize, n: u64) {
+        if place < TIMES {
+            self.numbers[place] = n;
+        } else if place == TIMES {
+            self.times = n;
+        } else if place <= TIMES + STEPS {
+            self.steps[place - TIMES - 1] = n;
+        } else {
+            self.put_word(place - TIMES - STEPS - 1, Word::spelt(n));
+        }
     }
-    if b < 58 {
-        return digit(r, b - 48);
-    }
-    if b < 97 {
-        return sign(r, b);
-    }
-    letter(r, b)
-}
 
-// A number with its sign, a negative one in two's complement.
-fn with_sign(n: u64, minus: bool) -> u64 {
-    if minus {
-        std::num::wrapping_sub_u64(0, n)
-    } else {
-        n
-    }
-}
-
-// What is being read comes to stand in its place.
-fn write(row: &mut [u64; ROW_LEN], r: Reading) {
-    let at = r.at;
-    let v = with_sign(r.value, r.minus);
-    if r.kind == NOTHING {
-        return;
-    }
-    if at < ROW_LEN {
-        row[at] = v;
-    }
-}
-
-// The numbers and the words of a row.
-pub fn read_row(line: &[u8], row: &mut [u64; ROW_LEN]) {
-    let mut r = Reading {
-        number: 0,
-        word: WORDS,
-        at: 0,
-        value: 0,
-        kind: NOTHING,
-        minus: false,
-    };
-    let mut i = 0;
-    while i < line.len() {
-        r = taken(r, wide(line[i]));
-        write(row, r);
-        i += 1;
-    }
-}
-
-// Each number grows by its step, for the next time.
-pub fn grow(row: &mut [u64; ROW_LEN]) {
-    let mut i = 0;
-    while i < 31 {
-        row[i] = std::num::wrapping_add_u64(row[i], row[STEPS + i]);
-        i += 1;
+    // Each number grows by its step, for the next time.
+    pub fn grow(&mut self) {
+        for (n, step) in self.numbers.iter_mut().zip(self.steps.iter()) {
+            *n = n.wrapping_add(*step);
+        }
     }
 }

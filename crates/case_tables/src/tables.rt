@@ -1,7 +1,9 @@
 // The tables of a state, by name: a word of a row, and how many rows the header counts.
-use case_rows::keys;
-use case_rows::reading::{ROW_LEN, WORDS};
-use case_rows::words::{YARD_LEN, fill, on, place, put};
+ghost use Rattle.std.specs.Prelude.{◌<◌};
+
+use case_rows::keys::Word;
+use case_rows::reading::Row;
+use case_rows::yards::Yard;
 use component::stored_word;
 use layout::{
     CELL_COUNT, CELL_ID, CELL_MASK, CELL_WIDTH, CELLS, EMPTIED, EMPTIED_COUNT, ENTITIES,
@@ -10,161 +12,171 @@ use layout::{
     NET_WIDTH, NEXT_ID, OCCUPIED, OCCUPIED_COUNT, SPARE, STATE_LEN,
 };
 
-// A table: which word of the header counts its rows, where they begin, and how many words a row has.
-#[derive(Clone, Copy)]
-pub struct Table {
-    pub count: usize,
-    pub from: usize,
-    pub width: usize,
+#[derive(Clone, Copy, Debug, PartialEq, Eq)]
+pub enum Table {
+    Entities,
+    Cells,
+    Occupied,
+    Emptied,
+    Ids,
+    Groups,
 }
 
-// The tables of cells and of groups.
-fn wide_table(name: u64) -> Table {
-    if name == keys::ENTITIES {
-        return Table {
-            count: ENTITY_COUNT,
-            from: ENTITIES,
-            width: ENTITY_WIDTH,
-        };
+impl Table {
+    // The table that a word names.
+    pub fn named(name: Word) -> Option<Table> {
+        match name {
+            Word::Entities => Some(Table::Entities),
+            Word::Cells => Some(Table::Cells),
+            Word::Occupied => Some(Table::Occupied),
+            Word::Emptied => Some(Table::Emptied),
+            Word::Ids => Some(Table::Ids),
+            Word::Groups => Some(Table::Groups),
+            _ => None,
+        }
     }
-    if name == keys::CELLS {
-        return Table {
-            count: CELL_COUNT,
-            from: CELLS,
-            width: CELL_WIDTH,
-        };
-    }
-    if name == keys::IDS {
-        return Table {
-            count: ID_COUNT,
-            from: IDS,
-            width: ID_WIDTH,
-        };
-    }
-    Table {
-        count: GROUP_COUNT,
-        from: GROUPS,
-        width: GROUP_WIDTH,
-    }
-}
 
-// The table of a name.
-pub fn table_of(name: u64) -> Table {
-    if name == keys::OCCUPIED {
-        return Table {
-            count: OCCUPIED_COUNT,
-            from: OCCUPIED,
-            width: NET_WIDTH,
-        };
+    // Which word of the header counts the rows.
+    pub fn count(self) -> usize {
+        match self {
+            Table::Entities => ENTITY_COUNT,
+            Table::Cells => CELL_COUNT,
+            Table::Occupied => OCCUPIED_COUNT,
+            Table::Emptied => EMPTIED_COUNT,
+            Table::Ids => ID_COUNT,
+            Table::Groups => GROUP_COUNT,
+        }
     }
-    if name == keys::EMPTIED {
-        return Table {
-            count: EMPTIED_COUNT,
-            from: EMPTIED,
-            width: NET_WIDTH,
-        };
-    }
-    wide_table(name)
-}
 
-// Whether a word names a table.
-fn is_table(name: u64) -> bool {
-    let nets = (name == keys::OCCUPIED) | (name == keys::EMPTIED);
-    let cells = (name == keys::CELLS) | (name == keys::IDS);
-    nets | cells | (name == keys::ENTITIES) | (name == keys::GROUPS)
+    // Where the rows begin.
+    fn from(self) -> usize
+        ensures { result < 50000 }
+    {
+        match self {
+            Table::Entities => ENTITIES,
+            Table::Cells => CELLS,
+            Table::Occupied => OCCUPIED,
+            Table::Emptied => EMPTIED,
+            Table::Ids => IDS,
+            Table::Groups => GROUPS,
+        }
+    }
+
+    // How many words a row has.
+    fn width(self) -> usize
+        ensures { result < 11 }
+    {
+        match self {
+            Table::Entities => ENTITY_WIDTH,
+            Table::Cells => CELL_WIDTH,
+            Table::Occupied | Table::Emptied => NET_WIDTH,
+            Table::Ids => ID_WIDTH,
+            Table::Groups => GROUP_WIDTH,
+        }
+    }
+
+    // Where a word of a row stands. No table has rows past the most entities, and no row sixteen words.
+    pub fn word_at(self, row: usize, word: usize) -> usize
+        ensures { result < 100000 }
+    {
+        self.from() + row % MOST_ENTITIES * self.width() + word % 16
+    }
 }
 
 // Which word of a group's row a name stands for.
-fn in_group(name: u64) -> usize {
+fn in_group(name: Word) -> usize {
     match name {
-        keys::GRID => GROUP_GRID,
-        keys::COUNT => GROUP_CELLS,
-        keys::ENTITIES => GROUP_ENTITIES,
-        keys::LOWX => GROUP_LOW,
-        keys::LOWY => GROUP_LOW + 1,
-        keys::LOWZ => GROUP_LOW + 2,
-        keys::HIGHX => GROUP_HIGH,
-        keys::HIGHY => GROUP_HIGH + 1,
-        keys::HIGHZ => GROUP_HIGH + 2,
+        Word::Grid => GROUP_GRID,
+        Word::Count => GROUP_CELLS,
+        Word::Entities => GROUP_ENTITIES,
+        Word::LowX => GROUP_LOW,
+        Word::LowY => GROUP_LOW + 1,
+        Word::LowZ => GROUP_LOW + 2,
+        Word::HighX => GROUP_HIGH,
+        Word::HighY => GROUP_HIGH + 1,
+        Word::HighZ => GROUP_HIGH + 2,
         _ => 0,
     }
 }
 
 // Which word of a cell a name stands for.
-fn in_cell(name: u64) -> usize {
+fn in_cell(name: Word) -> usize {
     match name {
-        keys::Z => 1,
-        keys::Y => 2,
-        keys::X => 3,
-        keys::MASK => CELL_MASK,
-        keys::ID => CELL_ID,
+        Word::Z => 1,
+        Word::Y => 2,
+        Word::X => 3,
+        Word::Mask => CELL_MASK,
+        Word::Id => CELL_ID,
         _ => 0,
     }
 }
 
 // Which word of a table's row a name stands for.
-fn in_row(table: u64, name: u64) -> usize {
-    if table == keys::GROUPS {
-        return in_group(name);
+fn in_row(table: Option<Table>, name: Word) -> usize {
+    match table {
+        Some(Table::Groups) => in_group(name),
+        Some(Table::Entities) if name != Word::Entity => ENTITY_CELL + in_cell(name) % 4,
+        _ => in_cell(name),
     }
-    if table == keys::ENTITIES && name != keys::ENTITY {
-        return ENTITY_CELL + in_cell(name) % 4;
-    }
-    in_cell(name)
 }
 
 // Whether a name stands for a coordinate, which is told with its sign.
-fn is_axis(name: u64) -> bool {
-    let own = (name == keys::X) | (name == keys::Y) | (name == keys::Z);
-    let low = (name == keys::LOWX) | (name == keys::LOWY) | (name == keys::LOWZ);
-    own | low | (name == keys::HIGHX) | (name == keys::HIGHY) | (name == keys::HIGHZ)
+fn is_axis(name: Word) -> bool {
+    matches!(
+        name,
+        Word::X
+            | Word::Y
+            | Word::Z
+            | Word::LowX
+            | Word::LowY
+            | Word::LowZ
+            | Word::HighX
+            | Word::HighY
+            | Word::HighZ
+    )
 }
 
-// Where a word of a row stands.
-pub fn word_at(t: Table, row: usize, word: usize) -> usize {
-    let from = t.from;
-    let width = t.width;
-    from % STATE_LEN + row % MOST_ENTITIES * (width % 16) + word % 16
-}
-
-// A word of a row is set: `set TABLE ROW NAME VALUE`, or `set TABLE ROW WORD VALUE` by the word's place.
-fn set(yard: &mut [u64; YARD_LEN], row: &[u64; ROW_LEN]) {
-    let table_name = row[WORDS + 1];
-    let name = row[WORDS + 2];
-    let t = table_of(table_name);
-    let n = place(row[0]);
-    if name == 0 {
-        put(yard, word_at(t, n, place(row[1])), row[2]);
-        return;
-    }
-    let at = word_at(t, n, in_row(table_name, name));
-    let v = if is_axis(name) {
-        stored_word(row[1])
+// A word of a row is set: `set TABLE ROW NAME VALUE`, or `set TABLE ROW WORD VALUE` by the word's place; whether the table is known. In
+// one that is not a word of a group is set.
+fn set(yard: &mut Yard, row: &Row) -> bool {
+    let [_, table_name, name] = row.words;
+    let [n, second, third, ..] = row.numbers;
+    let named = Table::named(table_name);
+    let table = named.unwrap_or(Table::Groups);
+    let i = n as usize;
+    if name == Word::Nothing {
+        yard.put(table.word_at(i, second as usize), third);
     } else {
-        row[1]
-    };
-    put(yard, at, v);
+        let v = if is_axis(name) {
+            stored_word(second)
+        } else {
+            second
+        };
+        yard.put(table.word_at(i, in_row(named, name)), v);
+    }
+    named.is_some()
 }
 
-// The header comes to count so many rows of a table.
-fn count_rows(yard: &mut [u64; YARD_LEN], row: &[u64; ROW_LEN]) {
-    let t = table_of(row[WORDS + 1]);
-    put(yard, t.count, row[0]);
+// The header comes to count so many rows of a table; whether the table is known. Else it counts groups.
+fn count_rows(yard: &mut Yard, row: &Row) -> bool {
+    let named = Table::named(row.words[1]);
+    let table = named.unwrap_or(Table::Groups);
+    yard.put(table.count(), row.numbers[0]);
+    named.is_some()
 }
 
-// A row that changes the yard by hand; whether it was one.
-pub fn change(yard: &mut [u64; YARD_LEN], row: &[u64; ROW_LEN]) -> bool {
-    let key = row[WORDS];
-    match key {
-        keys::FILL => fill(yard, row[0]),
-        keys::NEXT => put(yard, NEXT_ID, row[0]),
-        keys::KIND => put(yard, KIND, row[0]),
-        keys::SPARE => put(yard, on(SPARE, row[0]), row[1]),
-        keys::BEHIND => put(yard, on(STATE_LEN, row[0]), row[1]),
-        keys::SET => set(yard, row),
-        keys::ROWS => count_rows(yard, row),
+// A row that changes the yard by hand; whether it was one, and a right one.
+pub fn change(yard: &mut Yard, row: &Row) -> bool {
+    let [n, v, ..] = row.numbers;
+    match row.words[0] {
+        Word::Fill => yard.words.fill(n),
+        Word::Next => yard.put(NEXT_ID, n),
+        Word::Kind => yard.put(KIND, n),
+        Word::Spare => yard.put(SPARE.wrapping_add(n as usize), v),
+        Word::Behind => yard.put(STATE_LEN.wrapping_add(n as usize), v),
+        Word::Set => return set(yard, row),
+        Word::Rows => return count_rows(yard, row),
         _ => return false,
     }
-    let has_table = is_table(row[WORDS + 1]);
-    has_table | ((key != keys::SET) & (key != keys::ROWS))
+    true
 }

@@ -4,13 +4,14 @@
 mod files;
 mod playing;
 
-use case_batches::desk::DESK_LEN;
-use case_batches::telling::tell_all;
+use case_batches::telling::Report;
+use playing::Bench;
 use std::env::{Env, FillError};
 use std::io;
 
 fn main(rt: HostRuntime) -> io::Result<()> {
-    let mut desk = [0u64; DESK_LEN];
+    let mut report = Report::new();
+    let mut bench = Bench::new();
     let mut out = rt.stdout();
     for i in 1..usize::MAX {
         let mut name = [0u8; 4096];
@@ -19,7 +20,7 @@ fn main(rt: HostRuntime) -> io::Result<()> {
             Err(FillError::TooLong) => 0,
             Err(FillError::NotPresent) => break,
         };
-        files::play_file(&rt, &mut out, &mut desk, &name[..n])?;
+        files::play_file(&rt, &mut out, &mut report, &mut bench, &name[..n])?;
     }
-    tell_all(&mut out, &desk)
+    report.tell_all(&mut out)
 }

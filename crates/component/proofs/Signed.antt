@@ -1,8 +1,9 @@
 -- A signed number passed to a call, or given back by one, goes by its bits. Where it fits they read back as the number.
-use Rattle.std.proofs.Common.{◌≡◌, ℕ, ◌%◌, ◌<◌, ◌≤◌, Bool, cond, T, ℤ, pos, ◌+ℤ◌, ◌-ℤ◌, nat_abs, sym, ap, ◌∙◌, subst, ⊎_elim, mod-lt, arith, to_z-of_z, w32, w64, Fits, SFits, to_z, of_z}
-use lib.Signed.{lt_z, non_neg}
+use Rattle.std.proofs.Common.{◌≡◌, ℕ, ◌%◌, ◌<◌, ◌≤◌, Bool, T, ℤ, pos, ◌+ℤ◌, ◌-ℤ◌, nat_abs, sym, ap, ◌∙◌, subst, ⊎_elim, mod-lt, arith, to_z-of_z, w32, w64, Fits, SFits, to_z, of_z}
+use lib.Signed.{non_neg}
 use mir.Facts.{sfits_widen, to_z_pos}
-use Rattle.component.specs.Coord.{by_axis}
+use Rattle.std.specs.Int.{int_max}
+use Rattle.component.specs.Coord.{by_axis, max_z}
 use Rattle.component.specs.declared.CellCoord.{CellCoord}
 use Rattle.component.specs.Stored.{bias_by, biased, unbiased}
 use Rattle.component.specs.Laws.Stored.{plus-bias, bias-below, sub-up, sub-down}
@@ -17,10 +18,10 @@ pub by_bits : (f : ℤ → ℤ → ℤ) {r a b : ℤ} → r ≡ f (to_z w32 (of_
     → SFits w32 r → SFits w32 a → SFits w32 b → to_z w32 (of_z w32 r) ≡ f a b
 by_bits f {r} {a} {b} e hr ha hb = given_back e hr ∙ (λ i. f (to_z-of_z ha i) (to_z-of_z hb i))
 
--- What a test of the bits of two signed numbers said picks as the test of the numbers does.
-pub picked : {p q : ℤ} (x y : ℤ) {t : Bool} → SFits w32 p → SFits w32 q
-    → lt_z (to_z w32 (of_z w32 p)) (to_z w32 (of_z w32 q)) ≡ t → cond t x y ≡ cond (lt_z p q) x y
-picked x y hp hq e = ap (λ (u : Bool). cond u x y) (sym e ∙ (λ i. lt_z (to_z-of_z hp i) (to_z-of_z hq i)))
+-- The larger of two numbers, whichever of the two is asked first.
+pub larger : (a b : ℤ) → int_max a b ≡ max_z a b
+unfolding max_z
+larger a b = grind arith
 
 -- A record of three such answers.
 pub axes : (f : ℤ → ℤ → ℤ) (a b : CellCoord) {x y z : ℤ} → x ≡ f a.x b.x → y ≡ f a.y b.y → z ≡ f a.z b.z

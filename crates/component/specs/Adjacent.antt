@@ -1,9 +1,7 @@
 -- What `adjacent` answers: a neighbour where there is one and its block has room.
-use Rattle.std.specs.Prelude.{ℕ, ◌-◌, ◌≤◌, Bool, cond, ◌&&◌, nat_le, nat_lt}
+use Rattle.std.specs.Prelude.{ℕ, ◌-◌, ◌≤◌, Bool, cond, ◌&&◌, nat_le, nat_lt, Option, Some, None}
 use Rattle.component.specs.Around.{neighbour_at, neighbour_count}
 use Rattle.component.specs.declared.Cell.{Cell}
-use Rattle.component.specs.declared.Neighbour.{Neighbour}
-use Rattle.component.specs.declared.Neighbour.TheVariants.{Is, Nothing}
 
 -- The numbers from n - r to n + r are words of 64 bits.
 abbrev pub axis_room : ℕ → ℕ → Bool
@@ -14,8 +12,8 @@ abbrev pub has_room : ℕ → Cell → Bool
 has_room r c = axis_room r c.x && (axis_room r c.y && axis_room r c.z)
 
 -- The k-th neighbour where there is one and the block has room, and else nothing.
-abbrev pub adjacent_of : ℕ → Cell → ℕ → Neighbour
-adjacent_of r c k = cond (nat_lt k (neighbour_count r) && has_room r c) (Is (neighbour_at r c k)) Nothing
+abbrev pub adjacent_of : ℕ → Cell → ℕ → Option Cell
+adjacent_of r c k = cond (nat_lt k (neighbour_count r) && has_room r c) (Some (neighbour_at r c k)) None
 
 -- An axis has room, as a statement of the numbers.
 abbrev pub AxisRoom : ℕ → ℕ → Type 0

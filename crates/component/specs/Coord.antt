@@ -1,6 +1,8 @@
 -- Coordinates: the signed minimum and maximum by axis, and the signed range.
 use Rattle.std.specs.Prelude.{ℕ, Bool, cond, ◌&&◌, ℤ, pos, negsuc, int_le, int_lt}
 use Rattle.component.specs.declared.CellCoord.{CellCoord}
+use Rattle.component.specs.declared.Axis.{Axis}
+use Rattle.component.specs.declared.Axis.TheVariants.{X, Y, Z}
 
 -- The smaller of two integers.
 unfoldable pub min_z : ℤ → ℤ → ℤ
@@ -17,6 +19,12 @@ by_axis f a b = record { x = f a.x b.x; y = f a.y b.y; z = f a.z b.z }
 -- A signed coordinate is from -1,000,000,000 to 1,000,000,000.
 abbrev pub axis_in : ℤ → Bool
 axis_in n = int_le (negsuc 999999999) n && int_le n (pos 1000000000)
+
+-- The number of an axis.
+abbrev pub axis_number : Axis → ℕ
+axis_number X = 0
+axis_number Y = 1
+axis_number Z = 2
 
 -- The first axis that fails, z where x and y pass: x 0, y 1, z 2.
 abbrev pub first_bad : Bool → Bool → ℕ

@@ -3,7 +3,7 @@
 
 ghost use Rattle.std.specs.Prelude.{◌≡◌, ◌<◌, ◌≤◌, min, max, true};
 ghost use Rattle.component.specs.Order.{same, below};
-ghost use Rattle.component.specs.Coord.{min_z, max_z, by_axis, axis_in, first_bad, bad_axis, coord_in_range};
+ghost use Rattle.component.specs.Coord.{min_z, max_z, by_axis, axis_in, axis_number, first_bad, bad_axis, coord_in_range};
 ghost use Rattle.component.specs.Stored.{biased, unbiased, stored_word, signed_word, stored_by_axis, stored, coord_of, cell_id};
 ghost use Rattle.component.specs.Range.{axis_in_range, cell_in_range, stored_bad_axis};
 ghost use Rattle.component.specs.Touch.{close, touches};
@@ -11,25 +11,11 @@ ghost use Rattle.component.specs.Around.{step_n, neighbour_at, neighbour_count};
 ghost use Rattle.component.specs.Adjacent.{axis_room, has_room, adjacent_of};
 
 // A cell's place in its grid, by axis.
-#[derive(Clone, Copy)]
+#[derive(Clone, Copy, Debug, PartialEq, Eq)]
 pub struct CellCoord {
     pub x: i32,
     pub y: i32,
     pub z: i32,
-}
-
-// The smaller of two numbers.
-fn lesser(a: i32, b: i32) -> i32
-    ensures { result ≡ min_z a b }
-{
-    if b < a { b } else { a }
-}
-
-// The larger of two numbers.
-fn greater(a: i32, b: i32) -> i32
-    ensures { result ≡ max_z a b }
-{
-    if a < b { b } else { a }
 }
 
 impl CellCoord {
@@ -42,9 +28,9 @@ impl CellCoord {
         ensures { result ≡ by_axis min_z a b }
     {
         CellCoord {
-            x: lesser(a.x, b.x),
-            y: lesser(a.y, b.y),
-            z: lesser(a.z, b.z),
+            x: a.x.min(b.x),
+            y: a.y.min(b.y),
+            z: a.z.min(b.z),
         }
     }
 
@@ -53,9 +39,9 @@ impl CellCoord {
         ensures { result ≡ by_axis max_z a b }
     {
         CellCoord {
-            x: greater(a.x, b.x),
-            y: greater(a.y, b.y),
-            z: greater(a.z, b.z),
+            x: a.x.max(b.x),
+            y: a.y.max(b.y),
+            z: a.z.max(b.z),
         }
     }
 }
@@ -74,28 +60,47 @@ pub fn in_range(c: CellCoord) -> bool
     axis_in(c.x) & (axis_in(c.y) & axis_in(c.z))
 }
 
-// The first axis that fails, z where x and y pass: x 0, y 1, z 2.
-pub fn first_bad(x: bool, y: bool) -> u64
-    ensures { result ≡ first_bad x y }
+// An axis of a cell.
+#[derive(Clone, Copy, Debug, PartialEq, Eq)]
+pub enum Axis {
+    X,
+    Y,
+    Z,
+}
+
+impl Axis {
+    // The number that a refusal tells of an axis.
+    pub fn number(self) -> u64
+        ensures { result ≡ axis_number self }
+    {
+        match self {
+            Axis::X => 0,
+            Axis::Y => 1,
+            Axis::Z => 2,
+        }
+    }
+}
+
+// The first axis that fails, z where x and y pass.
+pub fn first_bad(x: bool, y: bool) -> Axis
+    ensures { axis_number result ≡ first_bad x y }
 {
-    if !x {
-        return 0;
+    match (x, y) {
+        (false, _) => Axis::X,
+        (true, false) => Axis::Y,
+        (true, true) => Axis::Z,
     }
-    if !y {
-        return 1;
-    }
-    2
 }
 
 // The first axis of coordinates that is out of its range, z where x and y are in theirs.
-pub fn bad_axis(c: CellCoord) -> u64
-    ensures { result ≡ bad_axis c }
+pub fn bad_axis(c: CellCoord) -> Axis
+    ensures { axis_number result ≡ bad_axis c }
 {
     first_bad(axis_in(c.x), axis_in(c.y))
 }
 
 // The stored form of a cell: its grid, and each coordinate as x + 2^31, so that cell order is the order of numbers.
-#[derive(Clone, Copy)]
+#[derive(Clone, Copy, Debug, PartialEq, Eq, PartialOrd, Ord)]
 pub struct Cell {
     pub grid: u64,
     pub z: u64,
@@ -103,31 +108,22 @@ pub struct Cell {
     pub x: u64,
 }
 
-// Whether a and b are the same cell.
+// Whether a and b are the same cell: `a == b`, in the words of the definition.
 pub fn same_cell(a: Cell, b: Cell) -> bool
     ensures { result ≡ same a b }
 {
-    (a.grid == b.grid) & ((a.z == b.z) & ((a.y == b.y) & (a.x == b.x)))
+    a == b
 }
 
-// Whether a comes before b in cell order.
+// Whether a comes before b in cell order: `a < b`, in the words of the definition.
 pub fn comes_before(a: Cell, b: Cell) -> bool
     ensures { result ≡ below a b }
 {
-    if a.grid != b.grid {
-        return a.grid < b.grid;
-    }
-    if a.z != b.z {
-        return a.z < b.z;
-    }
-    if a.y != b.y {
-        return a.y < b.y;
-    }
-    a.x < b.x
+    a < b
 }
 
 // A cell: its grid, and its place there.
-#[derive(Clone, Copy)]
+#[derive(Clone, Copy, Debug, PartialEq, Eq)]
 pub struct CellId {
     pub grid: u64,
     pub coord: CellCoord,
@@ -180,24 +176,10 @@ pub fn stored_in_range(c: Cell) -> bool
 }
 
 // The first axis of a stored cell that is out of its range, z where x and y are in theirs.
-pub fn stored_bad_axis(c: Cell) -> u64
-    ensures { result ≡ stored_bad_axis c }
+pub fn stored_bad_axis(c: Cell) -> Axis
+    ensures { axis_number result ≡ stored_bad_axis c }
 {
     first_bad(stored_axis_in(c.x), stored_axis_in(c.y))
-}
-
-// The smaller of two words.
-fn lesser_word(a: u64, b: u64) -> u64
-    ensures { result ≡ min a b }
-{
-    if a < b { a } else { b }
-}
-
-// The larger of two words.
-fn greater_word(a: u64, b: u64) -> u64
-    ensures { result ≡ max a b }
-{
-    if a < b { b } else { a }
 }
 
 impl Cell {
@@ -207,9 +189,9 @@ impl Cell {
     {
         Cell {
             grid: a.grid,
-            z: lesser_word(a.z, b.z),
-            y: lesser_word(a.y, b.y),
-            x: lesser_word(a.x, b.x),
+            z: a.z.min(b.z),
+            y: a.y.min(b.y),
+            x: a.x.min(b.x),
         }
     }
 
@@ -219,9 +201,9 @@ impl Cell {
     {
         Cell {
             grid: a.grid,
-            z: greater_word(a.z, b.z),
-            y: greater_word(a.y, b.y),
-            x: greater_word(a.x, b.x),
+            z: a.z.max(b.z),
+            y: a.y.max(b.y),
+            x: a.x.max(b.x),
         }
     }
 }
@@ -277,14 +259,14 @@ impl CellId {
     pub fn eq(self, other: CellId) -> bool
         ensures { result ≡ same (stored self) (stored other) }
     {
-        same_cell(stored(self), stored(other))
+        stored(self) == stored(other)
     }
 
     // Whether this cell comes before the other in cell order.
     pub fn comes_before(self, other: CellId) -> bool
         ensures { result ≡ below (stored self) (stored other) }
     {
-        comes_before(stored(self), stored(other))
+        stored(self) < stored(other)
     }
 }
 
@@ -292,28 +274,14 @@ impl CellId {
 fn near(a: u64, b: u64) -> bool
     ensures { result ≡ close a b }
 {
-    if a <= b { b - a <= 1 } else { a - b <= 1 }
+    a.abs_diff(b) <= 1
 }
 
 // Whether two cells touch: of one grid, at most 1 apart on each axis, and not the same.
 pub fn touching(a: Cell, b: Cell) -> bool
     ensures { result ≡ touches a b }
 {
-    let g = a.grid == b.grid;
-    let z = a.z == b.z;
-    let y = a.y == b.y;
-    let x = a.x == b.x;
-    let nx = near(a.x, b.x);
-    let ny = near(a.y, b.y);
-    let nz = near(a.z, b.z);
-    g & (nx & (ny & (nz & !(g & (z & (y & x))))))
-}
-
-// A cell, or that there is none.
-#[derive(Clone, Copy)]
-pub enum Neighbour {
-    Is(Cell),
-    Nothing,
+    (a.grid == b.grid) & (near(a.x, b.x) & (near(a.y, b.y) & (near(a.z, b.z) & (a != b))))
 }
 
 // How many neighbours a cell has to the radius r.
@@ -366,12 +334,12 @@ fn neighbour_to(c: Cell, r: u8, k: u64) -> Cell
 }
 
 // The k-th neighbour to the radius r: x fastest, then y, then z.
-pub fn adjacent(c: Cell, r: u8, k: u64) -> Neighbour
+pub fn adjacent(c: Cell, r: u8, k: u64) -> Option<Cell>
     ensures { result ≡ adjacent_of r c k }
 {
     if (k < neighbour_count(r)) & has_room(c, r) {
-        Neighbour::Is(neighbour_to(c, r, k))
+        Some(neighbour_to(c, r, k))
     } else {
-        Neighbour::Nothing
+        None
     }
 }

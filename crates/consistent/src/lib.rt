@@ -3,14 +3,15 @@
 
 ghost use Rattle.std.specs.Prelude.{◌≡◌, true};
 ghost use Rattle.layout.specs.Points.{long_enough, point1, point2, point3, point4, point5, point6, point7, point8, point9, first_broken};
-ghost use Rattle.consistent.specs.Answer.{state_refusal};
+ghost use Rattle.refusal.specs.Forms.{outcome};
+ghost use Rattle.consistent.specs.Answer.{broken_number, state_refusal};
 
 use layout::{
     CELL_COUNT, EMPTIED_COUNT, ENTITY_COUNT, GROUP_COUNT, ID_COUNT, KIND, NEXT_ID, OCCUPIED_COUNT,
     cell_words, count_at, emptied_words, entity_words, group_words, id_words, occupied_words,
     spare_words,
 };
-use refusal::Refusal;
+use refusal::{Point, Refusal};
 
 // 9. Whether the stored kind of touching is 6, 18 or 26.
 fn kind_known(state: &[u64]) -> bool
@@ -119,51 +120,50 @@ fn nets_in_order(state: &[u64]) -> bool
     points_check::nets_right(cells, m, occ, k, emp, l)
 }
 
-// The first broken point: 9 before 1 to 8; 0 where none is.
-fn first_broken(state: &[u64]) -> u64
+// The first broken point: 9 before 1 to 8.
+fn first_broken(state: &[u64]) -> Option<Point>
     requires { long_enough state.now ≡ true }
-    ensures { result ≡ first_broken state.now }
+    ensures { broken_number result ≡ first_broken state.now }
 {
     if !kind_known(state) {
-        return 9;
+        return Some(Point::Kind);
     }
     if !entities_within(state) {
-        return 1;
+        return Some(Point::Entities);
     }
     if !cells_exact(state) {
-        return 2;
+        return Some(Point::Cells);
     }
     if !masks_exact(state) {
-        return 3;
+        return Some(Point::Masks);
     }
     if !ids_shared(state) {
-        return 4;
+        return Some(Point::Ids);
     }
     if !records_exact(state) {
-        return 5;
+        return Some(Point::Records);
     }
     if !ids_below_next(state) {
-        return 6;
+        return Some(Point::NextId);
     }
     if !coordinates_in_range(state) {
-        return 7;
+        return Some(Point::Coordinates);
     }
     if !nets_in_order(state) {
-        return 8;
+        return Some(Point::Nets);
     }
-    0
+    None
 }
 
-// 1 for a state that is too short, 2 with its first broken point for one that is not consistent, else none.
-pub fn consistent(state: &[u64]) -> Refusal
-    ensures { result ≡ state_refusal state.now }
+// 1 for a state that is too short, 2 with its first broken point for one that is not consistent.
+pub fn consistent(state: &[u64]) -> Result<(), Refusal>
+    ensures { outcome result ≡ state_refusal state.now }
 {
     if state.len() < layout::state_len() {
-        return refusal::too_short();
+        return Err(Refusal::TooShort);
     }
-    let point = first_broken(state);
-    if point == 0 {
-        return refusal::none();
+    match first_broken(state) {
+        Some(point) => Err(Refusal::Broken(point)),
+        None => Ok(()),
     }
-    refusal::broken(point)
 }

@@ -18,8 +18,8 @@ pub fn is_finite(x: f64) -> bool
 
 // a less b with one rounding; a zero is plus zero.
 pub fn less(a: f64, b: f64) -> f64
-    requires fact_1 { Finite a }
-    requires fact_2 { Finite b }
+    requires a_finite { Finite a }
+    requires b_finite { Finite b }
     ensures { result ≡ nearest (exact a -ℤ exact b) }
 {
     let d = a - b;

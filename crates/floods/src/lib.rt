@@ -1,4 +1,5 @@
 // A flood over the rows of the occupied cells, given in a slice; the state is not known here.
+// The words of a table and the number of its rows are two arguments, as in `table`.
 #![tactic(auto)]
 
 ghost use Rattle.std.specs.Prelude.{◌≡◌, true, ℕ, ◌≤◌, ◌<◌, min, length};
@@ -16,48 +17,27 @@ ghost use Rattle.floods.specs.Parts.{NoneMarked, FloodAsked, Visits};
 use component::Cell;
 use layout::{ANSWER_WIDTH, CELL_WIDTH, MOST_CELLS};
 use refusal::Refusal;
-use table::Place;
 
 // How many cells a flood gives, and whether that was all of it.
-#[derive(Clone, Copy)]
+#[derive(Clone, Copy, Debug, PartialEq, Eq)]
 pub struct Visited {
     pub number: usize,
     pub was_all: bool,
 }
 
-// What a flood gives; of one that is too long, the words needed.
-#[derive(Clone, Copy)]
-pub enum Flooding {
-    Found(Visited),
-    NotFound(Visited),
-    TooLong(usize),
-    Refused(Refusal),
+// Whether the seed of a flood was found, and what the flood gives: nothing is all of it where it was not.
+#[derive(Clone, Copy, Debug, PartialEq, Eq)]
+pub struct Flooded {
+    pub found: bool,
+    pub visited: Visited,
 }
 
-// How far a flood goes.
-#[derive(Clone, Copy)]
-pub enum Depth {
-    Whole,
-    AtMost(i32),
-}
-
-// The smaller of a number of cells and the budget.
-fn least(whole: usize, budget: u64) -> usize
-    ensures { result ≡ min budget whole }
-{
-    if whole as u64 <= budget {
-        whole
-    } else {
-        budget as usize
-    }
-}
-
-// The rows that the depth leaves out are marked; the marks are scratch, and only which rows are open is promised.
-fn leave_out(cells: &[u64], n: usize, seed: usize, depth: Depth, marks: &mut [u64])
+// The rows that the depth leaves out, where there is one, are marked; the marks are scratch, and only which rows are open is promised.
+fn leave_out(cells: &[u64], n: usize, seed: usize, depth: Option<i32>, marks: &mut [u64])
     requires { ((kind : ℕ) × Cells kind cells.now n (cells_in n cells.now)) × (seed < n) × (n ≤ length marks.old) × NoneMarked n marks.old }
     ensures { open_cells cells.now n marks.new ≡ flood_cells (depth_of depth) (row_cell cells.now seed) (keys (cells_in n cells.now)) }
 {
-    if let Depth::AtMost(d) = depth {
+    if let Some(d) = depth {
         neighbourhood::mark_outside(cells, n, seed, d, marks);
     }
 }
@@ -68,7 +48,7 @@ fn queue_flood(
     cells: &[u64],
     n: usize,
     seed: usize,
-    depth: Depth,
+    depth: Option<i32>,
     marks: &mut [u64],
     queue: &mut [u64],
 ) -> usize
@@ -82,47 +62,31 @@ fn queue_flood(
     neighbourhood::flood_rows(cells, n, seed, 1, 0, marks, queue)
 }
 
-// The flood from a row that is there, with rows to mark and to queue as scratch, none of them marked.
-fn flood_over(
-    cells: &[u64],
-    n: usize,
-    seed: usize,
-    depth: Depth,
-    budget: u64,
-    marks: &mut [u64],
-    queue: &mut [u64],
-    answer: &mut [u64],
-) -> Flooding
-    requires { FloodAsked cells.now n seed marks.old queue.old }
-    ensures { (kind : ℕ) → Cells kind cells.now n (cells_in n cells.now) → (flooding_told result, answer.new) ≡ flooded true (flood_by (touch_at kind) (having (cells_in n cells.now)).occupancy (row_cell cells.now seed) (depth_of depth) budget) answer.old }
-{
-    let whole = queue_flood(cells, n, seed, depth, marks, queue);
-    let number = least(whole, budget);
-    if answer.len() < ANSWER_WIDTH * number {
-        return Flooding::TooLong(ANSWER_WIDTH * number);
-    }
-    neighbourhood::flood_into(cells, n, queue, number, answer);
-    let was_all = whole as u64 <= budget;
-    Flooding::Found(Visited { number, was_all })
-}
-
 // The flood from a row that is there.
 fn flood_from(
     cells: &[u64],
     n: usize,
     seed: usize,
-    depth: Depth,
+    depth: Option<i32>,
     budget: u64,
     answer: &mut [u64],
-) -> Flooding
+) -> Result<Flooded, Refusal>
     requires { ((kind : ℕ) × Cells kind cells.now n (cells_in n cells.now)) × (seed < n) × (n ≤ most_cells) }
     ensures { (kind : ℕ) → Cells kind cells.now n (cells_in n cells.now) → (flooding_told result, answer.new) ≡ flooded true (flood_by (touch_at kind) (having (cells_in n cells.now)).occupancy (row_cell cells.now seed) (depth_of depth) budget) answer.old }
 {
     let mut marks = [0u64; MOST_CELLS];
     let mut queue = [0u64; MOST_CELLS];
-    flood_over(
-        cells, n, seed, depth, budget, &mut marks, &mut queue, answer,
-    )
+    let whole = queue_flood(cells, n, seed, depth, &mut marks, &mut queue);
+    let number = budget.min(whole as u64) as usize;
+    if answer.len() < ANSWER_WIDTH * number {
+        return Err(Refusal::TooLong(ANSWER_WIDTH * number));
+    }
+    neighbourhood::flood_into(cells, n, &queue, number, answer);
+    let was_all = whole as u64 <= budget;
+    Ok(Flooded {
+        found: true,
+        visited: Visited { number, was_all },
+    })
 }
 
 // The flood from a cell, by the rows of the occupied cells; an unoccupied seed gives nothing, and that is all of it.
@@ -130,19 +94,21 @@ pub fn give_flood(
     cells: &[u64],
     n: usize,
     c: Cell,
-    depth: Depth,
+    depth: Option<i32>,
     budget: u64,
     answer: &mut [u64],
-) -> Flooding
+) -> Result<Flooded, Refusal>
     requires { ((kind : ℕ) × Cells kind cells.now n (cells_in n cells.now)) × (n ≤ most_cells) }
     ensures { (kind : ℕ) → Cells kind cells.now n (cells_in n cells.now) → (flooding_told result, answer.new) ≡ flooded (has same (keys (cells_in n cells.now)) c) (flood_by (touch_at kind) (having (cells_in n cells.now)).occupancy c (depth_of depth) budget) answer.old }
 {
-    let p = table::find4(cells, CELL_WIDTH, n, c);
-    match p {
-        Place::Found(i) => flood_from(cells, n, i, depth, budget, answer),
-        Place::Missing(_) => Flooding::NotFound(Visited {
-            number: 0,
-            was_all: true,
+    match table::find(cells, CELL_WIDTH, n, c) {
+        Ok(i) => flood_from(cells, n, i, depth, budget, answer),
+        Err(_) => Ok(Flooded {
+            found: false,
+            visited: Visited {
+                number: 0,
+                was_all: true,
+            },
         }),
     }
 }

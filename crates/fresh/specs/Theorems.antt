@@ -1,9 +1,11 @@
 -- What `fresh` leaves is a fresh state, and consistent; when it gives 1, 13, 5 and 0; and that it allows one answer only.
-use Rattle.std.specs.Prelude.{ℕ, ◌≡◌, Bool, List, drop}
-use Rattle.std.proofs.Common.{arith, sym, ◌∙◌}
+use Rattle.std.specs.Prelude.{ℕ, ◌≡◌, Bool, List, drop, Result}
+use Rattle.std.proofs.Common.{arith}
 use Rattle.std.proofs.Math.Path.{refl}
 use Rattle.std.proofs.Math.Bool.{true, false}
 use Rattle.refusal.specs.declared.Refusal.{Refusal}
+use Rattle.refusal.specs.Forms.{Refused, outcome}
+use Rattle.refusal.proofs.Theorems.{outcome-filled-one}
 use Rattle.model.specs.Cells.{is_kind}
 use Rattle.model.specs.Update.{few_ids, fresh}
 use Rattle.model.proofs.Laws.Tests.{T_true}
@@ -52,5 +54,7 @@ module _ (w : List ℕ) (first kind : ℕ) where
       go true true false h = absurd (h refl)
 
 -- Any two answers that the promise of `fresh` allows are equal.
-pub fresh-one : (w : List ℕ) (first kind : ℕ) (p q : Refusal × List ℕ) → p ≡ fresh_of w first kind → q ≡ fresh_of w first kind → p ≡ q
-fresh-one w first kind p q e f = e ∙ sym f
+pub fresh-one : (w : List ℕ) (first kind : ℕ) (p q : Result (Unit {0}) Refusal × List ℕ)
+    → ◌≡◌ {A = Refused × List ℕ} (outcome p.0, p.1) (fresh_of w first kind)
+    → ◌≡◌ {A = Refused × List ℕ} (outcome q.0, q.1) (fresh_of w first kind) → p ≡ q
+fresh-one w first kind p q e f = outcome-filled-one p q (fresh_of w first kind) e f

@@ -1,4 +1,4 @@
-// Kinds of touching: a cell has 6, 18 or 26 neighbours.
+// Kinds of touching: a cell has 6, 18 or 26 neighbours. A kind is a number here and not an enum: each answer is promised for every number.
 #![tactic(auto)]
 
 ghost use Rattle.std.specs.Prelude.{◌≡◌, cond, ◌<◌, ◌≤◌, eqb};
@@ -11,27 +11,25 @@ use component::{Cell, touching};
 pub fn is_kind(kind: u64) -> bool
     ensures { result ≡ is_kind kind }
 {
-    (kind == 6) | ((kind == 18) | (kind == 26))
+    matches!(kind, 6 | 18 | 26)
 }
 
 // Whether a step that moves on n axes is of the kind.
 fn allows(kind: u64, n: u64) -> bool
     ensures { result ≡ kind_allows kind n }
 {
-    if kind == 6 {
-        return n == 1;
+    match kind {
+        6 => n == 1,
+        18 => n <= 2,
+        _ => true,
     }
-    if kind == 18 {
-        return n <= 2;
-    }
-    true
 }
 
 // 1 where two numbers differ, and else 0.
 fn apart(a: u64, b: u64) -> u64
     ensures { (result ≡ cond (eqb a b) 0 1) × (result ≤ 1) }
 {
-    if a == b { 0 } else { 1 }
+    u64::from(a != b)
 }
 
 // Whether the k-th offset, whose place in the block of 27 leaves out the centre, is of the kind.

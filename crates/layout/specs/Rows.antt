@@ -1,8 +1,6 @@
 -- How the rows of the model's tables stand in words, and how they are read back.
-use Rattle.std.specs.Prelude.{ℕ, suc, ◌+◌, ◌-◌, List, [], ◌∷◌, get_or}
+use Rattle.std.specs.Prelude.{ℕ, suc, ◌+◌, ◌-◌, List, [], ◌∷◌, get_or, Option, Some, None}
 use Rattle.component.specs.Adjacent.{adjacent_of}
-use Rattle.component.specs.declared.Neighbour.{Neighbour}
-use Rattle.component.specs.declared.Neighbour.TheVariants.{Is, Nothing}
 use Rattle.model.specs.Lists.{each, keys}
 use Rattle.model.specs.Places.{slot}
 use Rattle.model.specs.Cells.{Cell}
@@ -22,9 +20,9 @@ abbrev pub number_of : Cell → Cell → ℕ
 number_of c d = suc (slot c d)
 
 -- A neighbour that is there; c itself, which touches no other cell of its own, where there is none.
-abbrev pub or_self : Cell → Neighbour → Cell
-or_self c (Is d) = d
-or_self c Nothing = c
+abbrev pub or_self : Cell → Option Cell → Cell
+or_self c (Some d) = d
+or_self c None = c
 
 -- The neighbour of c with a number.
 abbrev pub neighbour_of : Cell → ℕ → Cell

@@ -7,7 +7,7 @@ ghost use Rattle.layout.specs.State.{state_len, spare_words, entity_words, cell_
 ghost use Rattle.layout.specs.Points.{long_enough};
 ghost use Rattle.layout.specs.Rows.{or_self, neighbour_of};
 
-use component::{Cell, Neighbour, adjacent};
+use component::{Cell, adjacent};
 
 // The most entities, occupied cells and events of a batch, and the largest next id that leaves 2,048.
 pub const MOST_ENTITIES: usize = 4096;
@@ -123,6 +123,8 @@ pub fn count_at(state: &[u64], k: usize) -> usize
     state[k] as usize
 }
 
+// Here and below each part has a function by its name, for any words that are long enough: an enum of parts, or a type for such words, would have callers build one first.
+
 // The words of the header that have no name.
 pub fn spare_words(state: &[u64]) -> &[u64]
     requires { long_enough state.now ≡ true }
@@ -179,27 +181,9 @@ pub fn group_words(state: &[u64]) -> &[u64]
     &state[GROUPS..STATE_LEN]
 }
 
-// One less, and 0 of 0.
-fn less_one(n: u64) -> u64
-    ensures { result ≡ n - 1 }
-{
-    if n == 0 { 0 } else { n - 1 }
-}
-
-// A neighbour that is there, or the cell itself.
-fn or_self(c: Cell, a: Neighbour) -> Cell
-    ensures { result ≡ or_self c a }
-{
-    match a {
-        Neighbour::Is(d) => d,
-        Neighbour::Nothing => c,
-    }
-}
-
-// The neighbour of c with a number from 1.
+// The neighbour of c with a number from 1; c itself where there is none.
 pub fn neighbour_of(c: Cell, n: u64) -> Cell
     ensures { result ≡ neighbour_of c n }
 {
-    let a = adjacent(c, 1, less_one(n));
-    or_self(c, a)
+    adjacent(c, 1, n.saturating_sub(1)).unwrap_or(c)
 }

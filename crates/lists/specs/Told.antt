@@ -1,20 +1,19 @@
--- What each answer of a list tells: document 01's number and the values of each of its cases; and the answers of lists and of a path.
-use Rattle.std.specs.Prelude.{ℕ, Bool, true, false, List, length}
+-- What a list tells, and the answers of lists and of a path.
+use Rattle.std.specs.Prelude.{ℕ, Bool, true, false, List, length, Result, Ok, Err}
 use Rattle.std.proofs.Math.Option.{Option, none, some}
 use Rattle.model.specs.Lists.{gather}
 use Rattle.model.specs.Cells.{Cell}
 use Rattle.model.specs.Questions.{Listed}
 use Rattle.neighbourhood.specs.Answers.{answer_words}
-use Rattle.refusal.specs.Forms.{no_path}
-use Rattle.told.specs.Told.{Told, done, too_long, refused, fitted}
-use Rattle.lists.specs.declared.Listing.{Listing}
+use Rattle.refusal.specs.declared.Refusal.{Refusal}
+use Rattle.refusal.specs.Forms.{form, no_path}
+use Rattle.told.specs.Told.{Told, done, refused, failed, fitted}
+use Rattle.lists.specs.declared.Listed.{Listed as Given}
 
 -- A list: 0, whether what was asked for was found, and how many the list holds; 8 and the words needed; or the refusal.
-abbrev pub listing_told : Listing → Told (Bool × ℕ)
-listing_told (Listing.Found k) = done (true, k)
-listing_told (Listing.NotFound k) = done (false, k)
-listing_told (Listing.TooLong k) = too_long k
-listing_told (Listing.Refused r) = refused r
+abbrev pub listing_told : Result Given Refusal → Told (Bool × ℕ)
+listing_told (Ok l) = done (l.found, l.count)
+listing_told (Err r) = failed (form r)
 
 -- A list answer: found or not, how many the list holds, and its words.
 abbrev pub listed : Bool → ℕ → List ℕ → List ℕ → Told (Bool × ℕ) × List ℕ

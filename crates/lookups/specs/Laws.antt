@@ -1,2 +1,1 @@
 pub mod Finds
-pub mod Back

@@ -16,21 +16,21 @@ use Rattle.map.specs.Told.{TableIs, of_kind, told, noted}
 use Rattle.map.specs.Held.{Stored, Opens, Closes}
 use Rattle.map.specs.Laws.Shown.{Shown, shown-stored, stored-shown, occupied-room, open-masks, drop-masks, close-masks, nets-crossed}
 
-module _ {kind : ℕ} (cells occ emp : List ℕ) (n : Counts) (c : Cell) (o : Occupancy) where
+module _ {kind : ℕ} {cells occ emp : List ℕ} {n : Counts} {c : Cell} {o : Occupancy} where
   module _ (h : Opens kind cells occ emp n c o) where
     -- The words show what stands in them.
     pub opens-shown : Shown cells occ emp n o
     opens-shown = stored-shown o h.placed cells occ emp n h.stored
 
     -- The cell is open.
-    pub opened-stored : (told-cells cells' occ' emp' : List ℕ) (len w : ℕ) (r : Counts)
+    pub opened-stored : (len : ℕ) {told-cells cells' occ' emp' : List ℕ} {w : ℕ} {r : Counts}
         → w ≡ noted (of_kind kind) (keys (table4 cell_width n.cells cells)) (neighbour_of c) 26
         → TableIs cell cell_width n.cells told-cells (change (told (of_kind kind) true (neighbour_of c) 26) (table4 cell_width n.cells cells))
         → (r.cells, cells') ≡ stored4 len (put below c (w ∷ []) (table4 cell_width n.cells told-cells))
         → (TableIs cell net_width r.emptied emp' (drop_key same c (table4 net_width n.emptied emp)))
         × (TableIs cell net_width r.occupied occ' (cond (has same (keys (table4 net_width n.emptied emp)) c) (table4 net_width n.occupied occ) (put below c [] (table4 net_width n.occupied occ))))
         → Stored cells' occ' emp' r (open_cell (touch_at kind) c o)
-    opened-stored told-cells cells' occ' emp' len w r e t q x =
+    opened-stored len {told-cells} {cells'} {occ'} {emp'} {w} {r} e t q x =
         let y = opens-shown in
         let z = nets-crossed c o.newly_emptied o.newly_occupied n.emptied n.occupied emp occ y.emptied y.opened r.emptied r.occupied emp' occ' x in
         shown-stored cells' occ' emp' r (open_cell (touch_at kind) c o)
@@ -46,17 +46,17 @@ module _ {kind : ℕ} (cells occ emp : List ℕ) (n : Counts) (c : Cell) (o : Oc
     closes-shown = stored-shown o h.placed cells occ emp n h.stored
 
     -- The row is gone.
-    pub closes-gone : (gone : List ℕ) (len k : ℕ) → (k, gone) ≡ stored4 len (drop_key same c (table4 cell_width n.cells cells)) → is_table4 cell_width k gone ≡ true
-    closes-gone gone len k q = (drop-masks o h.placed c n.cells cells closes-shown.masks gone len k q).table
+    pub closes-gone : (len : ℕ) {gone : List ℕ} {k : ℕ} → (k, gone) ≡ stored4 len (drop_key same c (table4 cell_width n.cells cells)) → is_table4 cell_width k gone ≡ true
+    closes-gone len {gone} {k} q = (drop-masks o h.placed c n.cells cells closes-shown.masks gone len k q).table
 
     -- The cell is closed.
-    pub closed-stored : (gone cells' occ' emp' : List ℕ) (len : ℕ) (r : Counts)
+    pub closed-stored : (len : ℕ) {gone cells' occ' emp' : List ℕ} {r : Counts}
         → (r.cells, gone) ≡ stored4 len (drop_key same c (table4 cell_width n.cells cells))
         → TableIs cell cell_width r.cells cells' (change (told (of_kind kind) false (neighbour_of c) 26) (table4 cell_width r.cells gone))
         → (TableIs cell net_width r.occupied occ' (drop_key same c (table4 net_width n.occupied occ)))
         × (TableIs cell net_width r.emptied emp' (cond (has same (keys (table4 net_width n.occupied occ)) c) (table4 net_width n.emptied emp) (put below c [] (table4 net_width n.emptied emp))))
         → Stored cells' occ' emp' r (close_cell (touch_at kind) c o)
-    closed-stored gone cells' occ' emp' len r q t x =
+    closed-stored len {gone} {cells'} {occ'} {emp'} {r} q t x =
         let y = closes-shown in
         let z = nets-crossed c o.newly_occupied o.newly_emptied n.occupied n.emptied occ emp y.opened y.emptied r.occupied r.emptied occ' emp' x in
         shown-stored cells' occ' emp' r (close_cell (touch_at kind) c o)

@@ -32,15 +32,15 @@ abbrev stood : ℕ → Cell → List ℕ
 stood e c = cell_words c
 
 -- The tables of cells do not look at the number of entities.
-peopled-but : {kind : ℕ} (cells crowd occ emp : List ℕ) (n : Counts) (a : ℕ) (o : Occupancy) → Peopled kind cells crowd occ emp n o → Peopled kind cells crowd occ emp (counting a n) o
-peopled-but cells crowd occ emp n a o h =
-    record { crowd-is = h.crowd-is; crowd-fit = h.crowd-fit; stored = stored-but cells occ emp n a o.entities o h.stored; placed = h.placed }
+peopled-but : {kind : ℕ} {cells crowd occ emp : List ℕ} {n : Counts} (a : ℕ) (o : Occupancy) → Peopled kind cells crowd occ emp n o → Peopled kind cells crowd occ emp (counting a n) o
+peopled-but a o h =
+    record { crowd-is = h.crowd-is; crowd-fit = h.crowd-fit; stored = stored-but a o.entities o h.stored; placed = h.placed }
 
 -- With words that show the entities, the tables of cells hold the map.
-hold : {kind : ℕ} (ents cells crowd occ emp : List ℕ) (r : Counts) (a : ℕ) (o : Occupancy) → TableIs number entity_width a ents (each entity_row o.entities) → r.entities ≡ a → Peopled kind cells crowd occ emp r o
+hold : {kind : ℕ} {ents cells crowd occ emp : List ℕ} {r : Counts} (a : ℕ) (o : Occupancy) → TableIs number entity_width a ents (each entity_row o.entities) → r.entities ≡ a → Peopled kind cells crowd occ emp r o
     → Held kind ents cells crowd occ emp r o
 unfolding entities_image
-hold ents cells crowd occ emp r a o x f h =
+hold {kind} {ents} {cells} {crowd} {occ} {emp} {r} a o x f h =
     record {
       entities-is = shows-image number number-lawful entity_width a ents (each entity_row o.entities) x;
       entities-count = f ∙ shows-count number number-lawful entity_width a ents (each entity_row o.entities) x ∙ each-length entity_row o.entities;
@@ -51,7 +51,15 @@ hold ents cells crowd occ emp r a o x f h =
       placed = h.placed;
     }
 
-module _ {kind : ℕ} (ents cells crowd occ emp : List ℕ) (n : Counts) (o : Occupancy) (h : Held kind ents cells crowd occ emp n o) where
+-- The map at the same kind, with the same entities.
+pub same-held : {kind kind' : ℕ} {ents ents' cells crowd occ emp : List ℕ} {n : Counts} {o : Occupancy} → kind' ≡ kind → ents' ≡ ents → Held kind ents cells crowd occ emp n o → Held kind' ents' cells crowd occ emp n o
+same-held {kind} {kind'} {ents} {ents'} {cells} {crowd} {occ} {emp} {n} {o} p q h = subst (λ (x : ℕ × List ℕ). Held x.0 x.1 cells crowd occ emp n o) (λ i. (sym p i, sym q i)) h
+
+-- A cell can be entered at the same kind.
+pub same-enters : {kind kind' : ℕ} {cells crowd occ emp : List ℕ} {n : Counts} {e : ℕ} {c : Cell} {o : Occupancy} → kind' ≡ kind → EntersCell kind cells crowd occ emp n e c o → EntersCell kind' cells crowd occ emp n e c o
+same-enters {kind} {kind'} {cells} {crowd} {occ} {emp} {n} {e} {c} {o} p h = subst (λ (k : ℕ). EntersCell k cells crowd occ emp n e c o) (sym p) h
+
+module _ {kind : ℕ} {ents cells crowd occ emp : List ℕ} {n : Counts} {o : Occupancy} (h : Held kind ents cells crowd occ emp n o) where
   peopled-of : Peopled kind cells crowd occ emp n o
   peopled-of = record { crowd-is = h.crowd-is; crowd-fit = h.crowd-fit; stored = h.stored; placed = h.placed }
 
@@ -62,7 +70,7 @@ module _ {kind : ℕ} (ents cells crowd occ emp : List ℕ) (n : Counts) (o : Oc
       image-shows number number-lawful entity_width n.entities ents (each entity_row o.entities) h.entities-is (h.entities-count ∙ sym (each-length entity_row o.entities)) (omega arith)
       (entities-wide o.entities) (subst (Asc ltb) (sym (keys-each stood o.entities)) h.placed.sound.asc)
 
-  module _ (e : ℕ) (ents' : List ℕ) (a : ℕ) where
+  module _ (e : ℕ) {ents' : List ℕ} {a : ℕ} where
     -- They show them after the row of e says c.
     ents-put : (c : Cell) → (a, ents') ≡ stored1 (length ents) (put ltb e (cell_words c) (table1 entity_width n.entities ents)) → TableIs number entity_width a ents' (each entity_row (put ltb e c o.entities))
     ents-put c p =
@@ -77,17 +85,17 @@ module _ {kind : ℕ} (ents cells crowd occ emp : List ℕ) (n : Counts) (o : Oc
         let y = drop-next number entity_width number-lawful n.entities ents s.table (length ents) a ents' e p in
         record { table = y.0; is = y.1 ∙ ap (drop_key eqb e) s.is ∙ drop-each stood eqb e o.entities }
 
-module _ {kind : ℕ} (ents cells crowd occ emp : List ℕ) (n : Counts) (e : ℕ) (c : Cell) (o : Occupancy) (ents' : List ℕ) (a : ℕ) where
-  module _ (h : Enters kind ents cells crowd occ emp n e c o) (p : (a, ents') ≡ stored1 (length ents) (put ltb e (cell_words c) (table1 entity_width n.entities ents))) where
+module _ {kind : ℕ} {ents cells crowd occ emp : List ℕ} {n : Counts} {e : ℕ} {c : Cell} {o : Occupancy} where
+  module _ (h : Enters kind ents cells crowd occ emp n e c o) {ents' : List ℕ} {a : ℕ} (p : (a, ents') ≡ stored1 (length ents) (put ltb e (cell_words c) (table1 entity_width n.entities ents))) where
     -- An entity that is counted can enter its cell.
     pub enters-cell : EntersCell kind cells crowd occ emp (counting a n) e c o
     enters-cell =
-        let x = ents-put ents cells crowd occ emp n o h.held e ents' a c p in
+        let x = ents-put h.held e c p in
         let l : a ≡ suc (length o.entities) =
         shows-count number number-lawful entity_width a ents' (each entity_row (put ltb e c o.entities)) x ∙ each-length entity_row (put ltb e c o.entities)
         ∙ put-length-new numbers o.entities e c h.free in
         record {
-          peopled = peopled-but cells crowd occ emp n a o (peopled-of ents cells crowd occ emp n o h.held);
+          peopled = peopled-but a o (peopled-of h.held);
           free = h.free;
           counts = omega arith;
           ranged = h.ranged;
@@ -96,21 +104,21 @@ module _ {kind : ℕ} (ents cells crowd occ emp : List ℕ) (n : Counts) (e : �
         }
 
     -- The entity has entered.
-    pub entered-held : (cells' crowd' occ' emp' : List ℕ) (r : Counts) → r.entities ≡ a → Peopled kind cells' crowd' occ' emp' r (enter (touch_at kind) e c o)
+    pub entered-held : {cells' crowd' occ' emp' : List ℕ} {r : Counts} → r.entities ≡ a → Peopled kind cells' crowd' occ' emp' r (enter (touch_at kind) e c o)
         → Held kind ents' cells' crowd' occ' emp' r (enter (touch_at kind) e c o)
-    entered-held cells' crowd' occ' emp' r f x =
-        hold ents' cells' crowd' occ' emp' r a (enter (touch_at kind) e c o) (ents-put ents cells crowd occ emp n o h.held e ents' a c p) f x
+    entered-held f x =
+        hold a (enter (touch_at kind) e c o) (ents-put h.held e c p) f x
 
   module _ (h : Leaves kind ents cells crowd occ emp n e c o) where
     -- The entity can leave its cell, whatever number is counted.
-    pub leaves-cell : LeavesCell kind cells crowd occ emp (counting a n) e c o
-    leaves-cell = record { peopled = peopled-but cells crowd occ emp n a o (peopled-of ents cells crowd occ emp n o h.held); stands = h.stands; space = h.space }
+    pub leaves-cell : (a : ℕ) → LeavesCell kind cells crowd occ emp (counting a n) e c o
+    leaves-cell a = record { peopled = peopled-but a o (peopled-of h.held); stands = h.stands; space = h.space }
 
     -- The entity has left.
-    pub left-held : (a, ents') ≡ stored1 (length ents) (drop_key eqb e (table1 entity_width n.entities ents)) → (cells' crowd' occ' emp' : List ℕ) (r : Counts) → r.entities ≡ a
+    pub left-held : {ents' : List ℕ} {a : ℕ} → (a, ents') ≡ stored1 (length ents) (drop_key eqb e (table1 entity_width n.entities ents)) → {cells' crowd' occ' emp' : List ℕ} {r : Counts} → r.entities ≡ a
         → Peopled kind cells' crowd' occ' emp' r (leave (touch_at kind) e c o) → Held kind ents' cells' crowd' occ' emp' r (leave (touch_at kind) e c o)
-    left-held p cells' crowd' occ' emp' r f x =
-        hold ents' cells' crowd' occ' emp' r a (leave (touch_at kind) e c o) (ents-gone ents cells crowd occ emp n o h.held e ents' a p) f x
+    left-held {ents'} {a} p f x =
+        hold a (leave (touch_at kind) e c o) (ents-gone h.held e p) f x
 
 module _ (kind : ℕ) (o : Occupancy) (e : ℕ) (d : Cell) where
   -- To leave makes no list longer.
@@ -129,19 +137,19 @@ module _ (kind : ℕ) (o : Occupancy) (e : ℕ) (d : Cell) where
       go true = omega arith
       go false = keep-shorter (λ c. not (same d c)) (occupied o)
 
-module _ {kind : ℕ} (ents cells crowd occ emp : List ℕ) (n : Counts) (e : ℕ) (d c : Cell) (o : Occupancy) (h : Moves kind ents cells crowd occ emp n e d c o) where
+module _ {kind : ℕ} {ents cells crowd occ emp : List ℕ} {n : Counts} {e : ℕ} {d c : Cell} {o : Occupancy} (h : Moves kind ents cells crowd occ emp n e d c o) where
   -- The words show the entities, and there is room for the row.
   pub moves-shows : TableIs number entity_width n.entities ents (each entity_row o.entities)
-  moves-shows = ents-shows ents cells crowd occ emp n o h.leaving.held
+  moves-shows = ents-shows h.leaving.held
 
   pub moves-room : has_room1 entity_width n.entities ents e ≡ true
   moves-room = room-space number entity_width n.entities ents e h.space.entities-room
 
   -- The entity can leave its cell.
   pub moves-leaves : LeavesCell kind cells crowd occ emp n e d o
-  moves-leaves = record { peopled = peopled-of ents cells crowd occ emp n o h.leaving.held; stands = h.leaving.stands; space = h.leaving.space }
+  moves-leaves = record { peopled = peopled-of h.leaving.held; stands = h.leaving.stands; space = h.leaving.space }
 
-  module _ (cells' crowd' occ' emp' : List ℕ) (r : Counts) (f : r.entities ≡ n.entities) where
+  module _ {cells' crowd' occ' emp' : List ℕ} {r : Counts} (f : r.entities ≡ n.entities) where
     -- Once it has, it can enter the other.
     pub moves-enters : length cells' ≡ length cells → length crowd' ≡ length crowd → length occ' ≡ length occ → Peopled kind cells' crowd' occ' emp' r (leave (touch_at kind) e d o)
         → EntersCell kind cells' crowd' occ' emp' r e c (leave (touch_at kind) e d o)
@@ -161,15 +169,15 @@ module _ {kind : ℕ} (ents cells crowd occ emp : List ℕ) (n : Counts) (e : �
         }
 
     -- Its row says the other, and it stands there.
-    pub moved-held : (ents' : List ℕ) (a : ℕ) → (a, ents') ≡ stored1 (length ents) (put ltb e (cell_words c) (table1 entity_width n.entities ents))
+    pub moved-held : {ents' : List ℕ} {a : ℕ} → (a, ents') ≡ stored1 (length ents) (put ltb e (cell_words c) (table1 entity_width n.entities ents))
         → Peopled kind cells' crowd' occ' emp' r (enter (touch_at kind) e c (leave (touch_at kind) e d o)) → Held kind ents' cells' crowd' occ' emp' r (enter (touch_at kind) e c (leave (touch_at kind) e d o))
-    moved-held ents' a p x =
+    moved-held {ents'} {a} p x =
         let k = h.leaving.held in
         let t = o.entities in
-        let y = ents-put ents cells crowd occ emp n o k e ents' a c p in
+        let y = ents-put k e c p in
         let l : a ≡ length t =
         shows-count number number-lawful entity_width a ents' (each entity_row (put ltb e c t)) y ∙ each-length entity_row (put ltb e c t)
         ∙ put-length-old numbers t e c k.placed.sound.asc (d, h.leaving.stands) in
-        hold ents' cells' crowd' occ' emp' r a (enter (touch_at kind) e c (leave (touch_at kind) e d o))
+        hold a (enter (touch_at kind) e c (leave (touch_at kind) e d o))
         (subst (λ (u : List (ℕ × Cell)). TableIs number entity_width a ents' (each entity_row u)) (sym (put-over numbers t e c k.placed.sound.asc)) y)
         (f ∙ k.entities-count ∙ sym l) x

@@ -16,7 +16,7 @@ use Rattle.model.proofs.Laws.Tests.{T_true}
 use Rattle.model.proofs.Laws.Orders.{cells}
 use Rattle.model.proofs.Laws.Members.{of-hasnt, each-length}
 use Rattle.model.proofs.Laws.Tables.{free_of, key-free, drop-free, asc-fair, free-key}
-use Rattle.table.specs.declared.Place.TheVariants.{Found, Missing}
+use Rattle.std.specs.Prelude.{Ok, Err}
 use Rattle.table.specs.Moves.{over}
 use Rattle.table.specs.Rows.{cell, cell_at, table4, stored4, is_table4, place_of}
 use Rattle.table.specs.Laws.Kinds.{cell-lawful}
@@ -30,12 +30,12 @@ use Rattle.map.specs.Told.{TableIs, revised_mask, revised, revised_row, told_one
 use Rattle.map.specs.Laws.Tables.{put-is-change, change-missing}
 
 -- A row that is written over the row of its cell leaves the table with it.
-put-found : (w n : ℕ) (s r : List ℕ) (i : ℕ) → length r ≡ w → is_table4 w n s ≡ true → Found i ≡ place_of below (keys (table4 w n s)) (cell_at r 0) → (u : List ℕ) → u ≡ over s (w * i) r
+put-found : (w n : ℕ) (s r : List ℕ) (i : ℕ) → length r ≡ w → is_table4 w n s ≡ true → Ok i ≡ place_of below (keys (table4 w n s)) (cell_at r 0) → (u : List ℕ) → u ≡ over s (w * i) r
     → (n, u) ≡ stored4 (length s) (put below (cell_at r 0) (drop 4 r) (table4 w n s))
 put-found w n s r i wide =
-    subst (λ (v : ℕ). is_table4 v n s ≡ true → Found i ≡ place_of below (keys (table4 v n s)) (cell_at r 0) → (u : List ℕ) → u ≡ over s (v * i) r
+    subst (λ (v : ℕ). is_table4 v n s ≡ true → Ok i ≡ place_of below (keys (table4 v n s)) (cell_at r 0) → (u : List ℕ) → u ≡ over s (v * i) r
     → (n, u) ≡ stored4 (length s) (put below (cell_at r 0) (drop 4 r) (table4 v n s))) wide
-    (λ ok e u q. ap (λ (v : List ℕ). (n, v)) q ∙ put-stored cell n s r cell-lawful ok (Found i) e)
+    (λ ok e u q. ap (λ (v : List ℕ). (n, v)) q ∙ put-stored cell n s r cell-lawful ok (Ok i) e)
 
 -- A word that is written in the place of a mask stands in its row, over what the row was.
 pub word_over : (s : List ℕ) (i : ℕ) (joins : Bool) (w v : ℕ) → cell_width * i + cell_width ≤ length s → v ≡ revised_mask joins w (get_or s (cell_width * i + cell_mask) 0)
@@ -60,7 +60,7 @@ word_over s i joins w v h e =
 
 module _ (w n : ℕ) (s : List ℕ) (ok : is_table4 w n s ≡ true) (d : Cell) (i : ℕ) where
   -- A cell that is missing is not among the keys.
-  missing-out : Missing i ≡ place_of below (keys (table4 w n s)) d → Mem d (keys (table4 w n s)) → ⊥
+  missing-out : Err i ≡ place_of below (keys (table4 w n s)) d → Mem d (keys (table4 w n s)) → ⊥
   missing-out e = key-free cells (table4 w n s) (free_of (table4 w n s) d (missing-none cell cell-lawful w n s d i ok e))
 
 -- Either way out of a mask that is revised.
@@ -81,7 +81,7 @@ module _ (n : ℕ) (s : List ℕ) (ok : is_table4 cell_width n s ≡ true) (join
   abbrev row : List ℕ
   row = take cell_width (drop (cell_width * i) s)
 
-  module _ (e : Found i ≡ place_of below (keys (table4 cell_width n s)) d) where
+  module _ (e : Ok i ≡ place_of below (keys (table4 cell_width n s)) d) where
     -- The row that is found is within the words.
     pub found-row : cell_width * i + cell_width ≤ length s
     found-row = omega (arith, row_fits cell_width n i (found_below cell cell-lawful cell_width n s d i e), (table-facts cell cell_width n s ok).fits)
@@ -133,7 +133,7 @@ module _ (n : ℕ) (s : List ℕ) (ok : is_table4 cell_width n s ≡ true) (join
         }
 
   -- The cell is missing, and nothing is revised.
-  pub told-missing : Missing i ≡ place_of below (keys (table4 cell_width n s)) d → TableIs cell cell_width n s (change (told_one joins d w) (table4 cell_width n s))
+  pub told-missing : Err i ≡ place_of below (keys (table4 cell_width n s)) d → TableIs cell cell_width n s (change (told_one joins d w) (table4 cell_width n s))
   unfolding told_one
   told-missing e = record { table = ok; is = sym (change-missing cells d (revised joins w) (table4 cell_width n s) (missing-out cell_width n s ok d i e)) }
 

@@ -6,3 +6,4 @@ pub mod Shown
 pub mod Crowd
 pub mod Placed
 pub mod Tally
+pub mod Kept

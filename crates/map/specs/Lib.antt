@@ -1,3 +1,4 @@
+pub mod Tables
 pub mod Told
 pub mod Held
 pub mod StandOf

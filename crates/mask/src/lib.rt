@@ -41,5 +41,5 @@ pub fn clear(m: u64, k: u64) -> u64
 pub fn count(m: u64) -> u32
     ensures { result ≡ ones m }
 {
-    u64::count_ones(m)
+    m.count_ones()
 }

@@ -1,4 +1,5 @@
 // Whether each mask has exactly the bits of the occupied cells that touch at a kind.
+// The words of a table and the number of its rows are two arguments, as in `table`.
 #![tactic(auto)]
 
 ghost use Rattle.std.specs.Prelude.{◌≡◌, true, ◌+◌, ◌-◌, ◌*◌, ◌≤◌, length};
@@ -15,6 +16,7 @@ ghost use Rattle.masks_check.specs.Rows.{row_right};
 use component::Cell;
 use kinds::touching_at;
 use layout::{CELL_MASK, CELL_WIDTH};
+use std::cmp::Ordering;
 use table::cell_at;
 
 // The step on an axis from a to b, which are close: 0 down, 1 staying, 2 up.
@@ -22,13 +24,11 @@ fn axis_step(a: u64, b: u64) -> u64
     requires { (a ≤ b + 1) × (b ≤ a + 1) }
     ensures { (result ≡ b + 1 - a) × (result ≤ 2) }
 {
-    if a < b {
-        return 2;
+    match b.cmp(&a) {
+        Ordering::Less => 0,
+        Ordering::Equal => 1,
+        Ordering::Greater => 2,
     }
-    if b < a {
-        return 0;
-    }
-    1
 }
 
 // The bit of d in the mask of c, which it touches.
@@ -40,10 +40,7 @@ fn slot_of(c: Cell, d: Cell) -> u64
     let y = axis_step(c.y, d.y);
     let x = axis_step(c.x, d.x);
     let p = (z * 3 + y) * 3 + x;
-    if p < 13 {
-        return p;
-    }
-    p - 1
+    if p < 13 { p } else { p - 1 }
 }
 
 // The mask of c at the kind among the cells of m rows, by a look at each of them, whatever its coordinates.
@@ -52,14 +49,10 @@ fn scanned(kind: u64, cells: &[u64], m: usize, c: Cell) -> u64
     ensures { result ≡ mask_of (touch_at kind) (keys (table4 cell_width m cells.now)) c }
 {
     let mut bits = 0;
-    let mut i = 0;
-    while i < m {
+    for i in 0..m {
         let d = cell_at(cells, CELL_WIDTH * i);
         if touching_at(kind, c, d) {
             bits = mask::set(bits, slot_of(c, d));
-            i += 1;
-        } else {
-            i += 1;
         }
     }
     bits
@@ -71,9 +64,10 @@ fn mask_of(kind: u64, cells: &[u64], m: usize, c: Cell) -> u64
     ensures { result ≡ mask_of (touch_at kind) (keys (table4 cell_width m cells.now)) c }
 {
     if component::has_room(c, 1) {
-        return map::note(cells, m, kind, c);
+        map::note(cells, m, kind, c)
+    } else {
+        scanned(kind, cells, m, c)
     }
-    scanned(kind, cells, m, c)
 }
 
 // Whether the mask of each of m rows is right at the kind.
@@ -81,13 +75,8 @@ pub fn masks_right(kind: u64, cells: &[u64], m: usize) -> bool
     requires { is_table4 cell_width m cells.now ≡ true }
     ensures { result ≡ all (row_right kind (keys (table4 cell_width m cells.now))) (cells_in m cells.now) }
 {
-    let mut i = 0;
-    while i < m {
+    (0..m).all(|i| {
         let c = cell_at(cells, CELL_WIDTH * i);
-        if cells[CELL_WIDTH * i + CELL_MASK] != mask_of(kind, cells, m, c) {
-            return false;
-        }
-        i += 1;
-    }
-    true
+        cells[CELL_WIDTH * i + CELL_MASK] == mask_of(kind, cells, m, c)
+    })
 }

@@ -1,13 +1,11 @@
 -- Frames and places: which are valid, and the cell and the offset on an axis, by exact numbers.
-use Rattle.std.specs.Prelude.{ℕ, ◌*◌, ◌%◌, Bool, true, not, ◌&&◌, ◌||◌, ℤ, pos, ◌-ℤ◌, ◌*ℤ◌, ◌==◌, int_lt, nat_le, unsigned_abs, Float}
+use Rattle.std.specs.Prelude.{ℕ, ◌*◌, ◌%◌, Bool, true, not, ◌&&◌, ◌||◌, ℤ, pos, ◌-ℤ◌, ◌*ℤ◌, ◌==◌, int_lt, nat_le, unsigned_abs, Float, Option, None, Some}
 use Rattle.std.specs.Int.Signed.{shr_z}
 use Rattle.std.specs.Float.{binary64}
 use Rattle.std.specs.Float.Ieee.{eq, of_int}
 use Rattle.std.specs.Float.Ieee.Scale.{finite}
 use Rattle.exact.specs.Units.{metre, exact, nearest}
 use Rattle.metres.specs.declared.Frame.{Frame}
-use Rattle.metres.specs.declared.Margin.{Margin}
-use Rattle.metres.specs.declared.Margin.TheVariants.{Unsaid, Within}
 use Rattle.metres.specs.declared.Spot.{Spot}
 
 -- x is n metres.
@@ -35,9 +33,9 @@ unfoldable pub error_ok : Float → Bool
 error_ok x = finite x && not (int_lt (exact x) (pos 0))
 
 -- A margin is not said, or an error that may be.
-abbrev pub margin_ok : Margin → Bool
-margin_ok Unsaid = true
-margin_ok (Within err) = error_ok err
+abbrev pub margin_ok : Option Float → Bool
+margin_ok None = true
+margin_ok (Some err) = error_ok err
 
 -- p: a coordinate less the origin's, with one rounding.
 abbrev pub place_of : Float → Float → Float

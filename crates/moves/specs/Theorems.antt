@@ -1,12 +1,13 @@
 -- What is put in a batch is read back as the move that the event makes, and number 4 never refuses it.
-use Rattle.std.specs.Prelude.{ℕ, ◌+◌, ◌≡◌, Bool, true, false, not, cond, List, ◌++◌, T, leb, length}
+use Rattle.std.specs.Prelude.{ℕ, ◌+◌, ◌≡◌, Bool, true, false, not, cond, List, ◌++◌, T, leb, length, Result}
 use Rattle.std.proofs.Common.{sym, ap, ◌∙◌, leb-true}
 use Rattle.std.proofs.Math.Seq.{take-append_seam, drop-append_seam}
 use Rattle.std.specs.Float.{binary64}
 use Rattle.std.specs.Float.Ieee.{fits}
 use Rattle.component.specs.Coord.{coord_in_range}
 use Rattle.refusal.specs.declared.Refusal.{Refusal}
-use Rattle.refusal.specs.Forms.{none, too_short}
+use Rattle.refusal.specs.Forms.{Refused, none, too_short, outcome}
+use Rattle.refusal.proofs.Theorems.{outcome-one}
 use Rattle.model.specs.Lists.{all, each, gather}
 use Rattle.model.specs.Update.{out_of_range}
 use Rattle.table.specs.Moves.{over}
@@ -14,16 +15,17 @@ use Rattle.batch.specs.Words.{move_at, moves_in, batch_of}
 use Rattle.metres.specs.declared.Frame.{Frame}
 use Rattle.metres.specs.declared.Report.{Report}
 use Rattle.metres.specs.declared.Placing.{Placing}
-use Rattle.metres.specs.declared.Answer.TheVariants.{Event}
-use Rattle.metres.specs.Answer.{answer}
+use Rattle.metres.specs.Answer.{answer, Event}
 use Rattle.metres.proofs.Theorems.Events.{event-sound}
 use Rattle.layout.specs.Widths.{move_width}
 use Rattle.moves.specs.Words.{move_words, moved, move_of}
 use Rattle.moves.specs.Laws.Words.{move-there, moves-back, moves-in}
 
 -- Any two answers that the promise of `put_move` allows are equal.
-pub put-unique : (s : List ℕ) (at : ℕ) (e : Placing) (p q : Refusal × List ℕ) → p ≡ moved s at e → q ≡ moved s at e → p ≡ q
-put-unique s at e p q h k = h ∙ sym k
+pub put-unique : (s : List ℕ) (at : ℕ) (e : Placing) (p q : Result (Unit {0}) Refusal × List ℕ) → (outcome p.0, p.1) ≡ moved s at e → (outcome q.0, q.1) ≡ moved s at e → p ≡ q
+put-unique s at e p q h k =
+    let t : ◌≡◌ {A = Refused × List ℕ} (outcome p.0, p.1) (outcome q.0, q.1) = h ∙ sym k in
+    λ i. (outcome-one p.0 q.0 (λ j. (t j).0) i, (t i).1)
 
 -- What `event_of` answers is in range.
 pub event-in-range : (f : Frame) (r : Report) (entity grid : ℕ) (e : Placing) → T (fits binary64 f.edge) → answer f r entity grid ≡ Event e → coord_in_range e.cell.coord ≡ true
@@ -37,7 +39,7 @@ all_in es = all (λ (e : Placing). coord_in_range e.cell.coord) es
 pub put-reads-back : (s : List ℕ) (at : ℕ) (e : Placing) → leb (at + move_width) (length s) ≡ true → coord_in_range e.cell.coord ≡ true → move_at (moved s at e).1 at ≡ move_of e
 unfolding moved
 put-reads-back s at e h k =
-    ap (λ (t : Bool). move_at (cond {A = Refusal × List ℕ} t (none, over s at (move_words e)) (too_short, s)).1 at) h
+    ap (λ (t : Bool). move_at (cond {A = Refused × List ℕ} t (none, over s at (move_words e)) (too_short, s)).1 at) h
     ∙ move-there s at e (leb-true (at + move_width) (length s) h) k
 
 -- A batch of removals and of the moves of events is read back as these.

@@ -3,6 +3,7 @@
 
 ghost use Rattle.std.specs.Prelude.{◌≡◌, ◌+◌, leb};
 ghost use Rattle.layout.specs.Widths.{move_width};
+ghost use Rattle.refusal.specs.Forms.{outcome};
 ghost use Rattle.moves.specs.Words.{moved};
 
 use layout::MOVE_WIDTH;
@@ -13,21 +14,18 @@ use refusal::Refusal;
 fn has_room(len: usize, at: usize) -> bool
     ensures { result ≡ leb (at + move_width) len }
 {
-    if len < MOVE_WIDTH {
-        return false;
-    }
-    at <= len - MOVE_WIDTH
+    MOVE_WIDTH <= len && at <= len - MOVE_WIDTH
 }
 
 // The move that an event makes stands at a place of a batch; or it is refused by 1, and nothing is written, where the batch ends before.
-pub fn put_move(batch: &mut [u64], at: usize, e: Placing) -> Refusal
-    ensures { (result, batch.new) ≡ moved batch.old at e }
+pub fn put_move(batch: &mut [u64], at: usize, e: Placing) -> Result<(), Refusal>
+    ensures { (outcome result, batch.new) ≡ moved batch.old at e }
 {
     if !has_room(batch.len(), at) {
-        return refusal::too_short();
+        return Err(Refusal::TooShort);
     }
     let mut words = [e.entity, 0, 0, 0, 0];
     neighbourhood::write_cell(&mut words, 1, component::stored(e.cell));
     table::write_row(batch, at, &words);
-    refusal::none()
+    Ok(())
 }

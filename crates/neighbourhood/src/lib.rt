@@ -1,4 +1,5 @@
 // What is looked up in the table of occupied cells: a cell and those that its mask tells of, the occupied cells of a cube, floods.
+// The words of the rows and their number are two arguments, as in `table`; marks and queue are the caller's, as no heap is used.
 #![tactic(auto)]
 
 ghost use Rattle.std.specs.Prelude.{◌≡◌, true, List, ◌++◌, ℕ, ◌+◌, ◌-◌, ◌*◌, ◌≤◌, ◌<◌, length, take, drop};
@@ -19,14 +20,14 @@ ghost use Rattle.neighbourhood.specs.Answers.{answer_words, filled, NearbyAsked,
 
 use component::{Cell, signed_word};
 use layout::{ANSWER_WIDTH, CELL_MASK, CELL_WIDTH};
-use table::{find4, find4_near, index};
+use table::{find, find_near, index};
 
 // The row of an occupied cell, looked for from a row that may be any.
 fn row_of(cells: &[u64], n: usize, c: Cell, near: usize) -> usize
     requires { is_table4 cell_width n cells.now ≡ true }
     ensures { result ≡ row_for cells.now n c }
 {
-    index(find4_near(cells, CELL_WIDTH, n, c, near))
+    index(find_near(cells, CELL_WIDTH, n, c, near))
 }
 
 // n after the step d on an axis: one down for 0, the same for 1, one up for 2.
@@ -83,8 +84,7 @@ fn follow(
     let m = cells[CELL_WIDTH * i + CELL_MASK];
     let mut near = i;
     let mut e = end;
-    let mut k = 0;
-    while k < 26 {
+    for k in 0..26 {
         if mask::has(m, k) {
             let j = next_row(cells, n, i, k, near);
             near = j;
@@ -92,12 +92,7 @@ fn follow(
                 marks[j] = label;
                 queue[e] = j as u64;
                 e += 1;
-                k += 1;
-            } else {
-                k += 1;
             }
-        } else {
-            k += 1;
         }
     }
     e
@@ -121,6 +116,7 @@ pub fn flood_rows(
     queue[0] = seed as u64;
     let mut e = 1;
     let mut h = 0;
+    // A range or an iterator would be fixed before the loop, and the queue grows in it.
     while h < e {
         let i = queue[h] as usize;
         let next = marks[i] + step;
@@ -147,15 +143,11 @@ pub fn nearby_into(cells: &[u64], n: usize, row: usize, answer: &mut [u64]) -> u
     let m = cells[CELL_WIDTH * row + CELL_MASK];
     write_cell(answer, 0, table::cell_at(cells, CELL_WIDTH * row));
     let mut e = 1;
-    let mut k = 0;
-    while k < 26 {
+    for k in 0..26 {
         if mask::has(m, k) {
             let d = near_cell(cells, n, row, k);
             write_cell(answer, ANSWER_WIDTH * e, d);
             e += 1;
-            k += 1;
-        } else {
-            k += 1;
         }
     }
     e
@@ -165,7 +157,7 @@ pub fn nearby_into(cells: &[u64], n: usize, row: usize, answer: &mut [u64]) -> u
 fn are_near(r: u64, m: u64, n: u64) -> bool
     ensures { result ≡ are_near r m n }
 {
-    if m <= n { n - m <= r } else { m - n <= r }
+    m.abs_diff(n) <= r
 }
 
 // Whether d is of c's grid, at most r from it on each axis, and another cell.
@@ -176,8 +168,7 @@ fn is_beside(r: u64, c: Cell, d: Cell) -> bool
     let z = are_near(r, c.z, d.z);
     let y = are_near(r, c.y, d.y);
     let x = are_near(r, c.x, d.x);
-    let same = component::same_cell(c, d);
-    g & (z & (y & (x & !same)))
+    g & (z & (y & (x & (c != d))))
 }
 
 // The first row that is not before the plane z of a grid.
@@ -185,24 +176,13 @@ fn plane_row(cells: &[u64], n: usize, grid: u64, z: u64) -> usize
     requires { is_table4 cell_width n cells.now ≡ true }
     ensures { result ≡ row_for cells.now n (plane_start grid z) }
 {
-    index(find4(
-        cells,
-        CELL_WIDTH,
-        n,
-        Cell {
-            grid,
-            z,
-            y: 0,
-            x: 0,
-        },
-    ))
-}
-
-// n less r, and 0 where that is less.
-fn down(n: u64, r: u64) -> u64
-    ensures { result ≡ n - r }
-{
-    if n < r { 0 } else { n - r }
+    let first = Cell {
+        grid,
+        z,
+        y: 0,
+        x: 0,
+    };
+    index(find(cells, CELL_WIDTH, n, first))
 }
 
 // The occupied cells beside c come to stand in words behind the first from cells; the answer is how many stand there then. Rows ascend
@@ -211,17 +191,14 @@ pub fn cube_into(cells: &[u64], n: usize, c: Cell, r: u64, words: &mut [u64], fr
     requires { (is_table4 cell_width n cells.now ≡ true) × (c.z + r < 18446744073709551615) × (answer_width * (from + n) ≤ length words.old) }
     ensures { (result ≤ from + n) × (take (answer_width * result) words.new ≡ take (answer_width * from) words.old ++ gather answer_words (keep (beside r c) (keys (table4 cell_width n cells.now)))) × (drop (answer_width * result) words.new ≡ drop (answer_width * result) words.old) }
 {
+    let first = plane_row(cells, n, c.grid, c.z.saturating_sub(r));
     let end = plane_row(cells, n, c.grid, c.z + r + 1);
     let mut k = from;
-    let mut i = plane_row(cells, n, c.grid, down(c.z, r));
-    while i < end {
+    for i in first..end {
         let d = table::cell_at(cells, CELL_WIDTH * i);
         if is_beside(r, c, d) {
             write_cell(words, ANSWER_WIDTH * k, d);
             k += 1;
-            i += 1;
-        } else {
-            i += 1;
         }
     }
     k
@@ -232,12 +209,9 @@ pub fn flood_into(cells: &[u64], n: usize, rows: &[u64], count: usize, answer: &
     requires { Queued cells.now n rows.now count × (answer_width * count ≤ length answer.old) }
     ensures { answer.new ≡ filled answer.old (cells_of_rows cells.now rows.now count) }
 {
-    let mut k = 0;
-    while k < count {
-        let i = rows[k] as usize;
-        let c = table::cell_at(cells, CELL_WIDTH * i);
+    for (k, row) in rows[..count].iter().enumerate() {
+        let c = table::cell_at(cells, CELL_WIDTH * *row as usize);
         write_cell(answer, ANSWER_WIDTH * k, c);
-        k += 1;
     }
 }
 
@@ -246,10 +220,7 @@ fn is_near(d: u64, m: u64, n: u64) -> bool
     ensures { result ≡ near_on d m n }
 {
     let zero = component::bias(0);
-    if d < zero {
-        return false;
-    }
-    are_near(d - zero, m, n)
+    d >= zero && are_near(d - zero, m, n)
 }
 
 // Whether a cell is within the depth of the seed on every axis.
@@ -266,13 +237,9 @@ pub fn mark_outside(cells: &[u64], n: usize, seed: usize, depth: i32, marks: &mu
 {
     let d = component::bias(depth);
     let s = table::cell_at(cells, CELL_WIDTH * seed);
-    let mut i = 0;
-    while i < n {
-        if is_within(d, s, table::cell_at(cells, CELL_WIDTH * i)) {
-            i += 1;
-        } else {
+    for i in 0..n {
+        if !is_within(d, s, table::cell_at(cells, CELL_WIDTH * i)) {
             marks[i] = 1;
-            i += 1;
         }
     }
 }

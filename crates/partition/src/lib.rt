@@ -10,15 +10,16 @@ ghost use Rattle.layout.specs.Rows.{ids_in};
 ghost use Rattle.layout.specs.Widths.{id_width, net_width, group_width, group_cells, group_entities};
 ghost use Rattle.partition.specs.Held.{HeldTable, HeldRows, HeldIds, HeldCells, HeldGroups, HeldCounts, grown, corner_cell, grown_words, few, joined, words_of, row_in, Sifted};
 
+use arrayvec::ArrayVec;
 use component::Cell;
 use kinds::has_offset;
 use layout::{
     CELL_ID, GROUP_CELLS, GROUP_ENTITIES, GROUP_GRID, GROUP_HIGH, GROUP_LOW, GROUP_WIDTH, ID_WIDTH,
     NET_WIDTH, neighbour_of,
 };
-use table::{
-    Place, cell_at, contains, find1, find4_near, index, put1, put4, write_row, write_zeros,
-};
+use table::{cell_at, contains, find, find_near, index, put, write_row, write_zeros};
+
+// The number of rows goes beside the words: each method of a struct that held both would have to say that it still lends the same words.
 
 // A corner of the group record at at, whose coordinates stand from first on, as a cell of the group's grid.
 fn corner_at(groups: &[u64], at: usize, first: usize) -> Cell
@@ -61,17 +62,11 @@ fn count_cell(groups: &mut [u64], k: usize, c: Cell, m: u64, g: u64) -> usize
     requires { (l : List (ℕ × Group)) × HeldGroups groups.old k l × few l × (group_width * k + group_width ≤ length groups.old) × (m < 9223372036854775808) }
     ensures { (l : List (ℕ × Group)) → HeldGroups groups.old k l → HeldGroups groups.new result (put ltb g (grown (get eqb l g) c m) l) }
 {
-    let p = find1(groups, GROUP_WIDTH, k, g);
-    match p {
-        Place::Found(i) => {
-            let row = grown_row(groups, GROUP_WIDTH * i, c, m);
-            put1(groups, k, &row)
-        }
-        Place::Missing(_) => {
-            let row = [g, c.grid, 1, m, c.x, c.y, c.z, c.x, c.y, c.z];
-            put1(groups, k, &row)
-        }
-    }
+    let row = match find(groups, GROUP_WIDTH, k, g) {
+        Ok(i) => grown_row(groups, GROUP_WIDTH * i, c, m),
+        Err(_) => [g, c.grid, 1, m, c.x, c.y, c.z, c.x, c.y, c.z],
+    };
+    put::<u64>(groups, k, &row)
 }
 
 // The group records of the cells with ids are written, with the entities that are counted in each cell; the answer is the number of records.
@@ -80,8 +75,7 @@ pub fn build_records(ids: &[u64], n: usize, counts: &[u64], groups: &mut [u64]) 
     ensures { (e : List (ℕ × Cell)) (t : Ids) → HeldTable ids.now n t → HeldCounts counts.now ids.now n e → HeldGroups groups.new result (records e t) }
 {
     let mut k = 0;
-    let mut i = 0;
-    while i < n {
+    for i in 0..n {
         k = count_cell(
             groups,
             k,
@@ -89,38 +83,27 @@ pub fn build_records(ids: &[u64], n: usize, counts: &[u64], groups: &mut [u64]) 
             counts[i],
             ids[ID_WIDTH * i + CELL_ID],
         );
-        i += 1;
     }
     k
 }
 
-// The ids at the neighbours of c at the kind, in order; the answer is their number.
-pub fn found_at(ids: &[u64], n: usize, kind: u64, c: Cell, found: &mut [u64]) -> usize
-    requires { (t : Ids) × HeldRows ids.now n t × T (cell_in_range c) × (26 ≤ length found.old) }
-    ensures { (result ≤ 26) × ((t : Ids) → HeldRows ids.now n t → take result found.new ≡ found_at (touch_at kind) t c) × (drop result found.new ≡ drop result found.old) }
+// The ids at the neighbours of c at the kind, in order.
+pub fn found_at(ids: &[u64], n: usize, kind: u64, c: Cell) -> ArrayVec<u64, 26>
+    requires { (t : Ids) × HeldRows ids.now n t × T (cell_in_range c) }
+    ensures { (t : Ids) → HeldRows ids.now n t → result.items ≡ found_at (touch_at kind) t c }
 {
+    let mut found = ArrayVec::new();
     let mut near = 0;
-    let mut m = 0;
-    let mut k: u64 = 0;
-    while k < 26 {
+    for k in 0..26u64 {
         if has_offset(kind, k) {
-            let p = find4_near(ids, ID_WIDTH, n, neighbour_of(c, k + 1), near);
+            let p = find_near(ids, ID_WIDTH, n, neighbour_of(c, k + 1), near);
             near = index(p);
-            match p {
-                Place::Found(i) => {
-                    found[m] = ids[ID_WIDTH * i + CELL_ID];
-                    m += 1;
-                    k += 1;
-                }
-                Place::Missing(_) => {
-                    k += 1;
-                }
+            if let Ok(i) = p {
+                found.push(ids[ID_WIDTH * i + CELL_ID]);
             }
-        } else {
-            k += 1;
         }
     }
-    m
+    found
 }
 
 // How many cells the group g has.
@@ -129,65 +112,36 @@ fn group_size(ids: &[u64], n: usize, g: u64) -> usize
     ensures { result ≡ size (ids_in n ids.now) g }
 {
     let mut m = 0;
-    let mut i = 0;
-    while i < n {
+    for i in 0..n {
         if ids[ID_WIDTH * i + CELL_ID] == g {
             m += 1;
-            i += 1;
-        } else {
-            i += 1;
         }
     }
     m
 }
 
-// The largest of the first k groups found; among equals the earliest.
-fn largest(ids: &[u64], n: usize, found: &[u64], k: usize) -> u64
-    requires { (id_width * n ≤ length ids.now) × (1 ≤ k) × (k ≤ length found.now) }
-    ensures { result ≡ largest_group (ids_in n ids.now) (get_or found.now 0 0) (drop 1 (take k found.now)) }
+// The largest of the groups found; among equals the earliest.
+fn largest(ids: &[u64], n: usize, found: &[u64]) -> u64
+    requires { (id_width * n ≤ length ids.now) × (1 ≤ length found.now) }
+    ensures { result ≡ largest_group (ids_in n ids.now) (get_or found.now 0 0) (drop 1 found.now) }
 {
     let mut best = found[0];
-    let mut j = 1;
-    while j < k {
-        let a = group_size(ids, n, best);
-        let b = group_size(ids, n, found[j]);
-        if a < b {
-            best = found[j];
-            j += 1;
-        } else {
-            j += 1;
+    for &g in &found[1..] {
+        if group_size(ids, n, best) < group_size(ids, n, g) {
+            best = g;
         }
     }
     best
 }
 
-// Whether the group g is among the first k found.
-fn is_found(found: &[u64], k: usize, g: u64) -> bool
-    requires { k ≤ length found.now }
-    ensures { result ≡ has eqb (take k found.now) g }
+// All of the groups found become the group `into`.
+fn merge(ids: &mut [u64], n: usize, found: &[u64], into: u64)
+    requires { (t : Ids) × HeldRows ids.old n t }
+    ensures { (t : Ids) → HeldRows ids.old n t → HeldRows ids.new n (merge into found.now t) }
 {
-    let mut j = 0;
-    while j < k {
-        if g == found[j] {
-            return true;
-        }
-        j += 1;
-    }
-    false
-}
-
-// All of the first k groups found become the group `into`.
-fn merge(ids: &mut [u64], n: usize, found: &[u64], k: usize, into: u64)
-    requires { (t : Ids) × HeldRows ids.old n t × (k ≤ length found.now) }
-    ensures { (t : Ids) → HeldRows ids.old n t → HeldRows ids.new n (merge into (take k found.now) t) }
-{
-    let mut i = 0;
-    while i < n {
-        if is_found(found, k, ids[ID_WIDTH * i + CELL_ID]) {
+    for i in 0..n {
+        if found.contains(&ids[ID_WIDTH * i + CELL_ID]) {
             ids[ID_WIDTH * i + CELL_ID] = into;
-            i += 1;
-        } else {
-            i += 1;
         }
     }
 }
@@ -198,7 +152,7 @@ fn push(ids: &mut [u64], n: usize, c: Cell, g: u64) -> usize
     ensures { (result ≤ n + 1) × ((t : Ids) → HeldRows ids.old n t → HeldRows ids.new result (put below c g t)) }
 {
     let row = [c.grid, c.z, c.y, c.x, g];
-    put4(ids, n, &row)
+    put::<Cell>(ids, n, &row)
 }
 
 // How many rows there are, and the next id.
@@ -208,83 +162,61 @@ pub struct Numbered {
     pub next: u64,
 }
 
-// Whether the first k groups found are all the same.
-fn all_same(found: &[u64], k: usize) -> bool
-    requires { (1 ≤ k) × (k ≤ length found.now) }
-    ensures { result ≡ all (eqb (get_or found.now 0 0)) (take k found.now) }
+// Whether the groups found are all the same.
+fn all_same(found: &[u64]) -> bool
+    requires { 1 ≤ length found.now }
+    ensures { result ≡ all (eqb (get_or found.now 0 0)) found.now }
 {
     let first = found[0];
-    let mut j = 0;
-    while j < k {
-        if first == found[j] {
-            j += 1;
-        } else {
-            return false;
-        }
-    }
-    true
+    found.iter().all(|g| first == *g)
 }
 
-// The cell c joins the first of the k groups found, and all found merge; the answer is the new number of rows.
-fn join(ids: &mut [u64], n: usize, c: Cell, found: &[u64], k: usize) -> usize
-    requires { (t : Ids) × HeldRows ids.old n t × T (cell_in_range c) × (id_width * n + id_width ≤ length ids.old) × (1 ≤ k) × (k ≤ length found.now) }
-    ensures { (result ≤ n + 1) × ((t : Ids) → HeldRows ids.old n t → HeldRows ids.new result (joined t c (take k found.now))) }
+// The cell c joins the first of the groups found, and all found merge; the answer is the new number of rows.
+fn join(ids: &mut [u64], n: usize, c: Cell, found: &[u64]) -> usize
+    requires { (t : Ids) × HeldRows ids.old n t × T (cell_in_range c) × (id_width * n + id_width ≤ length ids.old) × (1 ≤ length found.now) }
+    ensures { (result ≤ n + 1) × ((t : Ids) → HeldRows ids.old n t → HeldRows ids.new result (joined t c found.now)) }
 {
     let r = push(ids, n, c, found[0]);
-    if all_same(found, k) {
-        return r;
+    if !all_same(found) {
+        let into = largest(ids, r, found);
+        merge(ids, r, found, into);
     }
-    let into = largest(ids, r, found, k);
-    merge(ids, r, found, k, into);
     r
 }
 
 // Rule 1, for one newly occupied cell.
-fn rule1(ids: &mut [u64], n: usize, kind: u64, next: u64, c: Cell) -> Numbered
-    requires { (s : Groups) × HeldIds ids.old n next s × T (cell_in_range c) × (id_width * n + id_width ≤ length ids.old) × (next < 18446744073709551615) }
-    ensures { (result.count ≤ n + 1) × (result.next ≤ next + 1) × ((s : Groups) → HeldIds ids.old n next s → HeldIds ids.new result.count result.next (rule1 (touch_at kind) s c)) }
+fn rule1(ids: &mut [u64], held: Numbered, kind: u64, c: Cell) -> Numbered
+    requires { (s : Groups) × HeldIds ids.old held.count held.next s × T (cell_in_range c) × (id_width * held.count + id_width ≤ length ids.old) × (held.next < 18446744073709551615) }
+    ensures { (result.count ≤ held.count + 1) × (result.next ≤ held.next + 1) × ((s : Groups) → HeldIds ids.old held.count held.next s → HeldIds ids.new result.count result.next (rule1 (touch_at kind) s c)) }
 {
-    let mut found = [0; 26];
-    let k = found_at(ids, n, kind, c, &mut found);
-    if k == 0 {
-        let m = push(ids, n, c, next);
+    let found = found_at(ids, held.count, kind, c);
+    if found.is_empty() {
         return Numbered {
-            count: m,
-            next: next + 1,
+            count: push(ids, held.count, c, held.next),
+            next: held.next + 1,
         };
     }
-    let m = join(ids, n, c, &found, k);
     Numbered {
-        count: m,
-        next: next,
+        count: join(ids, held.count, c, &found),
+        next: held.next,
     }
 }
 
 // Rule 1 for m newly occupied cells, in order.
 pub fn rules1(
     ids: &mut [u64],
-    n: usize,
+    mut held: Numbered,
     kind: u64,
-    next: u64,
     occupied: &[u64],
     m: usize,
 ) -> Numbered
-    requires { (s : Groups) × (l : List Cell) × HeldIds ids.old n next s × HeldCells occupied.now m l × (id_width * n + id_width * m ≤ length ids.old) × (next + m < 18446744073709551616) }
-    ensures { (result.count ≤ n + m) × (result.next ≤ next + m) × ((s : Groups) (l : List Cell) → HeldIds ids.old n next s → HeldCells occupied.now m l → HeldIds ids.new result.count result.next (run (rule1 (touch_at kind)) s l)) }
+    requires { (s : Groups) × (l : List Cell) × HeldIds ids.old held.count held.next s × HeldCells occupied.now m l × (id_width * held.count + id_width * m ≤ length ids.old) × (held.next + m < 18446744073709551616) }
+    ensures { (result.count ≤ held.count + m) × (result.next ≤ held.next + m) × ((s : Groups) (l : List Cell) → HeldIds ids.old held.count held.next s → HeldCells occupied.now m l → HeldIds ids.new result.count result.next (run (rule1 (touch_at kind)) s l)) }
 {
-    let mut count = n;
-    let mut id = next;
-    let mut i = 0;
-    while i < m {
-        let r = rule1(ids, count, kind, id, cell_at(occupied, NET_WIDTH * i));
-        count = r.count;
-        id = r.next;
-        i += 1;
+    for i in 0..m {
+        held = rule1(ids, held, kind, cell_at(occupied, NET_WIDTH * i));
     }
-    Numbered {
-        count: count,
-        next: id,
-    }
+    held
 }
 
 // Row i is copied to row j.
@@ -303,14 +235,10 @@ fn sift(ids: &mut [u64], n: usize, emptied: &[u64], m: usize) -> usize
     ensures { (result ≤ n) × (drop (id_width * result) ids.new ≡ drop (id_width * result) ids.old) × ((t : Ids) (l : List Cell) → HeldRows ids.old n t → HeldCells emptied.now m l → Sifted ids.new n result l t) }
 {
     let mut j = 0;
-    let mut i = 0;
-    while i < n {
-        if contains(emptied, NET_WIDTH, m, cell_at(ids, ID_WIDTH * i)) {
-            i += 1;
-        } else {
+    for i in 0..n {
+        if !contains(emptied, NET_WIDTH, m, cell_at(ids, ID_WIDTH * i)) {
             copy_row(ids, i, j);
             j += 1;
-            i += 1;
         }
     }
     j

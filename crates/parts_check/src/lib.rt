@@ -1,4 +1,5 @@
 // Whether ids are shared exactly by joined cells.
+// The words of a table and the number of its rows are two arguments, as in `table`.
 #![tactic(auto)]
 
 ghost use Rattle.std.specs.Prelude.{◌≡◌, ℕ, ◌*◌, ◌≤◌, ◌<◌, length, List};
@@ -20,13 +21,9 @@ fn mark_parts(cells: &[u64], m: usize, marks: &mut [u64], queue: &mut [u64])
     requires { Partable cells.now m marks.old queue.old }
     ensures { (kind : ℕ) (t : List (CellOf × ℕ)) → Cells kind cells.now m t → Labelled kind cells.now m t m marks.new }
 {
-    let mut i = 0;
-    while i < m {
+    for i in 0..m {
         if marks[i] == 0 {
             neighbourhood::flood_rows(cells, m, i, i as u64 + 1, 0, marks, queue);
-            i += 1;
-        } else {
-            i += 1;
         }
     }
 }
@@ -36,16 +33,9 @@ fn row_agrees(ids: &[u64], m: usize, marks: &[u64], i: usize) -> bool
     requires { (i < m) × (id_width * m ≤ length ids.now) × (m ≤ length marks.now) }
     ensures { result ≡ all (agree_at ids.now marks.now i) (count 0 m) }
 {
-    let mut j = 0;
-    while j < m {
-        let a = ids[ID_WIDTH * i + CELL_ID] == ids[ID_WIDTH * j + CELL_ID];
-        let b = marks[i] == marks[j];
-        if (a & !b) | (!a & b) {
-            return false;
-        }
-        j += 1;
-    }
-    true
+    (0..m).all(|j| {
+        (ids[ID_WIDTH * i + CELL_ID] == ids[ID_WIDTH * j + CELL_ID]) == (marks[i] == marks[j])
+    })
 }
 
 // Whether the first row of each part agrees with all rows.
@@ -53,18 +43,7 @@ fn firsts_agree(ids: &[u64], m: usize, marks: &[u64]) -> bool
     requires { (id_width * m ≤ length ids.now) × (m ≤ length marks.now) }
     ensures { result ≡ all (first_agrees ids.now m marks.now) (count 0 m) }
 {
-    let mut i = 0;
-    while i < m {
-        if marks[i] == i as u64 + 1 {
-            if !row_agrees(ids, m, marks, i) {
-                return false;
-            }
-            i += 1;
-        } else {
-            i += 1;
-        }
-    }
-    true
+    (0..m).all(|i| marks[i] != i as u64 + 1 || row_agrees(ids, m, marks, i))
 }
 
 // Whether the ids of m rows are shared exactly by joined cells.

@@ -6,7 +6,7 @@ use Rattle.model.specs.Lists.{keep, each, keys}
 use Rattle.model.specs.Cells.{Cell, touch_at}
 use Rattle.model.specs.Shortest.{shown_path}
 use Rattle.neighbourhood.specs.Rows.{row_cell, onward}
-use Rattle.neighbourhood.specs.Standing.{Cells, HasTable, Levels}
+use Rattle.neighbourhood.specs.Standing.{HasTable, Levels}
 use Rattle.neighbourhood.specs.Answers.{filled}
 use Rattle.layout.specs.Widths.{answer_width}
 

@@ -1,4 +1,5 @@
 // The path that is shown between two cells, over the rows of the occupied cells.
+// The words of a table and the number of its rows are two arguments, as in `table`.
 #![tactic(auto)]
 
 ghost use Rattle.std.specs.Prelude.{◌≡◌, List, ℕ, ◌*◌, ◌≤◌, ◌<◌, length};
@@ -18,17 +19,12 @@ fn next_step(cells: &[u64], n: usize, marks: &[u64], i: usize) -> usize
     let m = cells[CELL_WIDTH * i + CELL_MASK];
     let nearer = marks[i] - 1;
     let mut near = i;
-    let mut k = 0;
-    while k < 26 {
+    for k in 0..26 {
         if mask::has(m, k) {
-            let j = neighbourhood::next_row(cells, n, i, k, near);
-            near = j;
-            if marks[j] == nearer {
-                return j;
+            near = neighbourhood::next_row(cells, n, i, k, near);
+            if marks[near] == nearer {
+                return near;
             }
-            k += 1;
-        } else {
-            k += 1;
         }
     }
     i
@@ -41,15 +37,10 @@ fn path_into(cells: &[u64], n: usize, marks: &[u64], from: usize, answer: &mut [
 {
     let count = marks[from] as usize;
     let mut i = from;
-    let mut k = 0;
-    while k < count {
-        neighbourhood::write_cell(
-            answer,
-            ANSWER_WIDTH * k,
-            table::cell_at(cells, CELL_WIDTH * i),
-        );
+    for k in 0..count {
+        let c = table::cell_at(cells, CELL_WIDTH * i);
+        neighbourhood::write_cell(answer, ANSWER_WIDTH * k, c);
         i = next_step(cells, n, marks, i);
-        k += 1;
     }
     count
 }

@@ -7,6 +7,7 @@ ghost use Rattle.player.specs.Places.{Plays};
 
 use fresh::fresh;
 use layout::{MOST_EVENTS, MOVE_WIDTH, STATE_LEN};
+use refusal::Refusal;
 use script_reader::{Ending, Events, MOVES_LEN, Reader, first_reader, gather, offset};
 use script_writer::{Line, answer, flush, put};
 use std::io;
@@ -18,7 +19,7 @@ use yard::update;
 const SCRIPT_KIND: u64 = 26;
 
 // Where reading and writing stand between two batches, the number of the next batch, and whether there may be one.
-#[derive(Clone, Copy)]
+#[derive(Clone, Copy, Debug, PartialEq, Eq)]
 pub struct Progress {
     pub reader: Reader,
     pub number: u64,
@@ -35,18 +36,22 @@ fn join(batch: &mut [u64], removals: &[u64], n: usize, moves: &[u64], m: usize)
 }
 
 // The batch updates the state, its removals first; one of which not all events are kept is refused.
-fn run(state: &mut [u64], removals: &[u64; MOST_EVENTS], moves: &[u64; MOVES_LEN], v: Events) -> u64
+fn run(
+    state: &mut [u64],
+    removals: &[u64; MOST_EVENTS],
+    moves: &[u64; MOVES_LEN],
+    v: Events,
+) -> Result<(), Refusal>
     requires { Counts v }
 {
     if v.over {
-        return 3;
+        return Err(Refusal::TooManyEvents);
     }
     let n = v.removals;
     let m = v.moves;
-    let mut batch = [0u64; MOST_EVENTS + MOVES_LEN];
+    let mut batch = [0; MOST_EVENTS + MOVES_LEN];
     join(&mut batch, removals, n, moves, m);
-    let answer = update(state, &batch, n as u64, m as u64);
-    answer.number
+    update(state, &batch, n as u64, m as u64)
 }
 
 // The line after which a script stops where its input ends: `open batch` where events were read, else `end`.
@@ -73,8 +78,8 @@ fn turn<R: Read, W: Write>(
     ensures moves { MovesOn (R.remaining from.old) (R.remaining from.new) }
     ensures grows { Grows (W.contents to.old) (W.contents to.new) }
 {
-    let mut removals = [0u64; MOST_EVENTS];
-    let mut moves = [0u64; MOVES_LEN];
+    let mut removals = [0; MOST_EVENTS];
+    let mut moves = [0; MOVES_LEN];
     let number = p.number;
     let used = p.used;
     let g = match gather(from, input, &mut removals, &mut moves, p.reader) {
@@ -86,34 +91,33 @@ fn turn<R: Read, W: Write>(
     };
     let reader = g.reader;
     let events = g.events;
-    let ending = g.ending;
-    let next = match ending {
-        Ending::Run => {
-            let code = run(state, &removals, &moves, events);
+    let stopped = Progress {
+        reader,
+        going: false,
+        ..p
+    };
+    Ok(match g.ending {
+        Some(Ending::Run) => {
+            let outcome = run(state, &removals, &moves, events);
             Progress {
                 reader,
-                number: std::num::wrapping_add_u64(number, 1),
-                used: answer(to, state, output, used, number, code)?,
+                number: number.wrapping_add(1),
+                used: answer(to, state, output, used, number, outcome)?,
                 going: true,
             }
-        },
-        Ending::Bad => Progress {
-            reader,
-            number,
+        }
+        Some(Ending::Bad) => Progress {
             used: put(to, output, used, Line::Wrong(offset(reader)))?,
-            going: false,
+            ..stopped
         },
-        Ending::Reading | Ending::Out => Progress {
-            reader,
-            number,
+        None | Some(Ending::Out) => Progress {
             used: put(to, output, used, last_line(events))?,
-            going: false,
+            ..stopped
         },
-    };
-    Ok(next)
+    })
 }
 
-// All batches are read and answered. The turns are counted down from a number that no input uses up, so the loop is seen to end.
+// All batches are read and answered. The turns come to a number that no input uses up, so the loop is seen to end.
 // After an error in reading the answers to the batches that were played are written; after one in writing some may not be.
 fn play_all<R: Read, W: Write>(
     from: &mut R,
@@ -131,21 +135,22 @@ fn play_all<R: Read, W: Write>(
         used: 0,
         going: true,
     };
-    let mut turns = u64::MAX;
-    while turns > 0 && p.going {
+    for _turns in 0..u64::MAX {
+        if !p.going {
+            break;
+        }
         p = turn(from, to, state, input, output, p)?;
-        turns -= 1;
     }
-    let used = p.used;
-    flush(to, output, used)
+    flush(to, output, p.used)
 }
 
 // The script on standard input is played in a fresh yard, whose first id is 0. It ends early where a read or a write fails.
 pub fn play(rt: &(impl Input + Print)) -> io::Result<()> {
-    let mut state = [0u64; STATE_LEN];
-    let mut input = [0u8; 65536];
-    let mut output = [0u8; 65536];
-    fresh(&mut state, 0, SCRIPT_KIND);
+    let mut state = [0; STATE_LEN];
+    let mut input = [0; 65536];
+    let mut output = [0; 65536];
+    // A state of this length and kind is never refused.
+    let _ = fresh(&mut state, 0, SCRIPT_KIND);
     let mut from = rt.reader();
     let mut to = io::writer(rt);
     play_all(&mut from, &mut to, &mut state, &mut input, &mut output)

@@ -1,105 +1,128 @@
-// Why a call was refused, in one form for every call: the scope's number, and where the fault is.
+// Why a call was refused: one case for each line of the scope's table, with its number and where the fault is.
 #![tactic(auto)]
 
 ghost use Rattle.std.specs.Prelude.{◌≡◌};
-ghost use Rattle.refusal.specs.Forms.{plain, none, too_short, broken, out_of_range, few_ids, bad_report, bad_frame, no_path, unknown_kind};
+ghost use Rattle.refusal.specs.Forms.{point_number, form};
 
-#[derive(Clone, Copy)]
-pub struct Refusal {
-    // The scope's number; 0 where nothing is refused.
-    pub number: u64,
-    // Which of the things given is meant, counted from 0; for a broken state the point, counted from 1.
-    pub at: u64,
+use component::Axis;
+
+// The points of consistency, as the scope numbers them.
+#[derive(Clone, Copy, Debug, PartialEq, Eq)]
+pub enum Point {
+    // 1: too many entities, or one that stands twice.
+    Entities,
+    // 2: the cells are not those that an entity stands in.
+    Cells,
+    // 3: a mask is not exact.
+    Masks,
+    // 4: ids are not shared exactly by joined cells.
+    Ids,
+    // 5: the group records are not those of the cells.
+    Records,
+    // 6: an id is not below the next one.
+    NextId,
+    // 7: a coordinate is out of range.
+    Coordinates,
+    // 8: a net list is not one.
+    Nets,
+    // 9: what touching means is none of the three kinds.
+    Kind,
+}
+
+impl Point {
+    // The scope's number.
+    pub fn number(self) -> u64
+        ensures { result ≡ point_number self }
+    {
+        match self {
+            Point::Entities => 1,
+            Point::Cells => 2,
+            Point::Masks => 3,
+            Point::Ids => 4,
+            Point::Records => 5,
+            Point::NextId => 6,
+            Point::Coordinates => 7,
+            Point::Nets => 8,
+            Point::Kind => 9,
+        }
+    }
+}
+
+#[derive(Clone, Copy, Debug, PartialEq, Eq)]
+pub enum Refusal {
+    // 1: words are too few.
+    TooShort,
+    // 2: the state is not consistent, and this is its first broken point.
+    Broken(Point),
+    // 3: too many events.
+    TooManyEvents,
+    // 4: a coordinate of the move or cell at a position is out of range.
+    OutOfRange(u64, Axis),
+    // 5: too few ids are left.
+    FewIds,
+    // 6: more entities would stand than may.
+    TooManyEntities,
+    // 7: more cells would be occupied than may be.
+    TooManyCells,
+    // 8: the answer is longer than its slice; so many words are needed.
+    TooLong(usize),
+    // 10: a coordinate of a report.
+    BadCoordinate(Axis),
+    // 10: the error of a report.
+    BadError,
+    // 11: the edge of a frame.
+    BadEdge,
+    // 11: the origin of a frame.
+    BadOrigin(Axis),
+    // 12: no path leads there.
+    NoPath,
+    // 13: what touching means is none of the three kinds.
+    UnknownKind,
+}
+
+impl Refusal {
+    // The scope's number.
+    pub fn number(self) -> u64
+        ensures { result ≡ (form self).number }
+    {
+        match self {
+            Refusal::TooShort => 1,
+            Refusal::Broken(_) => 2,
+            Refusal::TooManyEvents => 3,
+            Refusal::OutOfRange(_, _) => 4,
+            Refusal::FewIds => 5,
+            Refusal::TooManyEntities => 6,
+            Refusal::TooManyCells => 7,
+            Refusal::TooLong(_) => 8,
+            Refusal::BadCoordinate(_) | Refusal::BadError => 10,
+            Refusal::BadEdge | Refusal::BadOrigin(_) => 11,
+            Refusal::NoPath => 12,
+            Refusal::UnknownKind => 13,
+        }
+    }
+
+    // Which of the things given is meant, counted from 0; for a broken state the point, counted from 1; of an answer the words needed.
+    pub fn at(self) -> u64
+        ensures { result ≡ (form self).at }
+    {
+        match self {
+            Refusal::Broken(point) => point.number(),
+            Refusal::OutOfRange(at, _) => at,
+            Refusal::TooLong(needed) => needed as u64,
+            Refusal::BadError | Refusal::BadOrigin(_) => 1,
+            _ => 0,
+        }
+    }
+
     // Which axis of it: x 0, y 1, z 2.
-    pub axis: u64,
-}
-
-// A refusal that tells no place.
-pub fn plain(number: u64) -> Refusal
-    ensures { result ≡ plain number }
-{
-    Refusal {
-        number,
-        at: 0,
-        axis: 0,
+    pub fn axis(self) -> u64
+        ensures { result ≡ (form self).axis }
+    {
+        match self {
+            Refusal::OutOfRange(_, axis)
+            | Refusal::BadCoordinate(axis)
+            | Refusal::BadOrigin(axis) => axis.number(),
+            _ => 0,
+        }
     }
-}
-
-// None: the call is done.
-pub fn none() -> Refusal
-    ensures { result ≡ none }
-{
-    plain(0)
-}
-
-// 1: words are too few.
-pub fn too_short() -> Refusal
-    ensures { result ≡ too_short }
-{
-    plain(1)
-}
-
-// 2: the state is not consistent, and this is its first broken point.
-pub fn broken(point: u64) -> Refusal
-    ensures { result ≡ broken point }
-{
-    Refusal {
-        number: 2,
-        at: point,
-        axis: 0,
-    }
-}
-
-// 4: a coordinate of the move or cell at a position is out of range.
-pub fn out_of_range(at: u64, axis: u64) -> Refusal
-    ensures { result ≡ out_of_range at axis }
-{
-    Refusal {
-        number: 4,
-        at,
-        axis,
-    }
-}
-
-// 5: too few ids are left.
-pub fn few_ids() -> Refusal
-    ensures { result ≡ few_ids }
-{
-    plain(5)
-}
-
-// 10: the values of a report, 0 its coordinates or 1 its error.
-pub fn bad_report(at: u64, axis: u64) -> Refusal
-    ensures { result ≡ bad_report at axis }
-{
-    Refusal {
-        number: 10,
-        at,
-        axis,
-    }
-}
-
-// 11: a frame, by 0 its edge or 1 its origin.
-pub fn bad_frame(at: u64, axis: u64) -> Refusal
-    ensures { result ≡ bad_frame at axis }
-{
-    Refusal {
-        number: 11,
-        at,
-        axis,
-    }
-}
-
-// 12: no path leads there.
-pub fn no_path() -> Refusal
-    ensures { result ≡ no_path }
-{
-    plain(12)
-}
-
-// 13: what touching means is none of the three kinds.
-pub fn unknown_kind() -> Refusal
-    ensures { result ≡ unknown_kind }
-{
-    plain(13)
 }

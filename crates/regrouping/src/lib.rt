@@ -10,7 +10,7 @@ use partition::build_records;
 use split::regroup;
 
 // How many rows the tables of the groups have, and the next id.
-#[derive(Clone, Copy)]
+#[derive(Clone, Copy, Debug, PartialEq, Eq)]
 pub struct Made {
     pub ids: usize,
     pub groups: usize,
@@ -18,7 +18,8 @@ pub struct Made {
 }
 
 // The n cells with an id are regrouped after p cells are newly occupied and m newly emptied, and the records of the groups are built, with
-// how many entities are counted in each cell that has an id then.
+// how many entities are counted in each cell that has an id then. Each table is lent with the number of its rows, since its memory has
+// room for more.
 pub fn regroup_and_record(
     ids: &mut [u64],
     n: usize,

@@ -5,160 +5,116 @@
 mod stored;
 mod telling;
 
-use layout::{MOST_EVENTS, MOVE_WIDTH, STATE_LEN};
-use metres::{Answer, Frame, Report};
-use settings::Reading;
+use layout::{MOVE_WIDTH, STATE_LEN};
+use metres::{Frame, Report};
 use std::io;
 use std::io::Write;
 
-// The move that a report makes, behind the moves that a batch has; the answer is how many it has then.
-fn add_move<W: Write>(
-    out: &mut W,
-    frame: Frame,
-    grid: u64,
-    batch: &mut [u64],
-    moves: usize,
+// What a receiver reports of an entity.
+#[derive(Clone, Copy)]
+struct Received {
     entity: u64,
     report: Report,
-) -> io::Result<usize> {
-    let n = moves % MOST_EVENTS;
-    match metres::event_of(frame, report, entity, grid) {
-        Answer::Event(e) => {
-            telling::event(out, entity, e.cell)?;
-            let put = moves::put_move(batch, MOVE_WIDTH * n, e);
-            if put.number != 0 {
-                return Ok(n);
+}
+
+fn reported(entity: u64, report: Report) -> Received {
+    Received { entity, report }
+}
+
+// The batches of a grid: its frame, and the words that they are made in.
+#[derive(Drop)]
+struct Batches<'a> {
+    frame: Frame,
+    grid: u64,
+    words: &'a mut [u64],
+}
+
+impl<'a> Batches<'a> {
+    // The moves that reports make are put in a batch; the answer is how many.
+    fn fill<W: Write>(&mut self, out: &mut W, reports: &[Received]) -> io::Result<u64> {
+        let mut moves: usize = 0;
+        for r in reports {
+            match metres::event_of(self.frame, r.report, r.entity, self.grid) {
+                Ok(Some(e)) => {
+                    telling::event(out, r.entity, e.cell)?;
+                    let at = moves.saturating_mul(MOVE_WIDTH);
+                    if moves::put_move(self.words, at, e).is_ok() {
+                        moves = moves.saturating_add(1);
+                    }
+                }
+                Ok(None) => telling::none(out, r.entity)?,
+                Err(fault) => telling::refused(out, r.entity, fault)?,
             }
-            Ok(n + 1)
         }
-        Answer::NoEvent => {
-            telling::none(out, entity)?;
-            Ok(n)
-        }
-        Answer::Refused(r) => {
-            telling::refused(out, entity, r)?;
-            Ok(n)
-        }
+        Ok(moves as u64)
     }
-}
 
-// The batch is played, and the entities are told.
-fn play<W: Write>(out: &mut W, state: &mut [u64], batch: &[u64], moves: usize) -> io::Result<()> {
-    let answer = yard::update(state, batch, 0, moves as u64);
-    telling::batch(out, moves as u64, answer)?;
-    telling::stands(out, state, 1)?;
-    telling::stands(out, state, 2)?;
-    telling::stands(out, state, 3)?;
-    telling::stands(out, state, 4)
-}
+    // The batch of some reports is played, and the entities are told.
+    fn play<W: Write>(
+        &mut self,
+        out: &mut W,
+        state: &mut [u64],
+        reports: &[Received],
+    ) -> io::Result<()> {
+        let moves = self.fill(out, reports)?;
+        let answer = yard::update(state, self.words, 0, moves);
+        telling::batch(out, moves, answer)?;
+        for entity in 1..5 {
+            telling::stands(out, state, entity)?;
+        }
+        Ok(())
+    }
 
-// Two tractors in cells that touch at an edge, and one apart; a lost receiver and a bad reading make no move.
-fn first<W: Write>(
-    out: &mut W,
-    frame: Frame,
-    grid: u64,
-    state: &mut [u64],
-    batch: &mut [u64],
-    nan: f64,
-) -> io::Result<()> {
-    let a = add_move(
-        out,
-        frame,
-        grid,
-        batch,
-        0,
-        1,
-        Report::Fix(100.5, -49.5, 0.25),
-    )?;
-    let b = add_move(
-        out,
-        frame,
-        grid,
-        batch,
-        a,
-        2,
-        Report::Reckoned(99.5, -48.0, 0.0, 0.75),
-    )?;
-    let c = add_move(
-        out,
-        frame,
-        grid,
-        batch,
-        b,
-        3,
-        Report::Fix(105.0, -50.0, 0.0),
-    )?;
-    let d = add_move(out, frame, grid, batch, c, 4, Report::Nothing)?;
-    let n = add_move(out, frame, grid, batch, d, 4, Report::Fix(100.0, nan, 0.0))?;
-    play(out, state, batch, n)
-}
+    // Two tractors in cells that touch at an edge, and one apart; a lost receiver and a bad reading make no move.
+    fn first<W: Write>(&mut self, out: &mut W, state: &mut [u64], nan: f64) -> io::Result<()> {
+        let reports = [
+            reported(1, Report::Fix(100.5, -49.5, 0.25)),
+            reported(2, Report::Reckoned(99.5, -48.0, 0.0, 0.75)),
+            reported(3, Report::Fix(105.0, -50.0, 0.0)),
+            reported(4, Report::Nothing),
+            reported(4, Report::Fix(100.0, nan, 0.0)),
+        ];
+        self.play(out, state, &reports)
+    }
 
-// A fourth tractor joins the groups at two sides; the second stays in its cell.
-fn second<W: Write>(
-    out: &mut W,
-    frame: Frame,
-    grid: u64,
-    state: &mut [u64],
-    batch: &mut [u64],
-) -> io::Result<()> {
-    let a = add_move(
-        out,
-        frame,
-        grid,
-        batch,
-        0,
-        4,
-        Report::Fix(102.0, -50.0, 0.0),
-    )?;
-    let n = add_move(
-        out,
-        frame,
-        grid,
-        batch,
-        a,
-        2,
-        Report::Fix(98.0, -46.00000000000001, 1.0),
-    )?;
-    play(out, state, batch, n)
-}
+    // A fourth tractor joins the groups at two sides; the second stays in its cell.
+    fn second<W: Write>(&mut self, out: &mut W, state: &mut [u64]) -> io::Result<()> {
+        let reports = [
+            reported(4, Report::Fix(102.0, -50.0, 0.0)),
+            reported(2, Report::Fix(98.0, -46.00000000000001, 1.0)),
+        ];
+        self.play(out, state, &reports)
+    }
 
-// It leaves, just below the cell where it stood, and the groups part.
-fn third<W: Write>(
-    out: &mut W,
-    frame: Frame,
-    grid: u64,
-    state: &mut [u64],
-    batch: &mut [u64],
-) -> io::Result<()> {
-    let n = add_move(
-        out,
-        frame,
-        grid,
-        batch,
-        0,
-        4,
-        Report::Fix(2000.0, -50.000000000000014, -5e-324),
-    )?;
-    play(out, state, batch, n)
+    // It leaves, just below the cell where it stood, and the groups part.
+    fn third<W: Write>(&mut self, out: &mut W, state: &mut [u64]) -> io::Result<()> {
+        let reports = [reported(4, Report::Fix(2000.0, -50.000000000000014, -5e-324))];
+        self.play(out, state, &reports)
+    }
 }
 
 // Three batches in a fresh yard of a grid, in its frame and with its kind of touching.
 fn run<W: Write>(out: &mut W, frame: Frame, grid: u64, kind: u64) -> io::Result<()> {
     let mut state = [0u64; STATE_LEN];
-    let mut batch = [0u64; 5 * MOVE_WIDTH];
+    let mut words = [0u64; 5 * MOVE_WIDTH];
     let zero = 0.0;
     let made = yard::fresh(&mut state, 0, kind);
-    telling::fresh(out, &state, made.number)?;
-    first(out, frame, grid, &mut state, &mut batch, 0.0 / zero)?;
-    second(out, frame, grid, &mut state, &mut batch)?;
-    third(out, frame, grid, &mut state, &mut batch)
+    telling::fresh(out, &state, made)?;
+    let mut batches = Batches {
+        frame,
+        grid,
+        words: &mut words,
+    };
+    batches.first(out, &mut state, 0.0 / zero)?;
+    batches.second(out, &mut state)?;
+    batches.third(out, &mut state)
 }
 
 // The settings of a grid are read and told, and the batches are played by them.
 fn play_grid<W: Write>(out: &mut W, bytes: &[u8], n: usize, grid: u64) -> io::Result<()> {
     let read = settings::read_v2(bytes, n, grid);
     telling::settings(out, grid, read)?;
-    if let Reading::Found(s) = read {
+    if let Ok(Some(s)) = read {
         run(out, settings_frame::frame_of(s), grid, s.kind as u64)?;
     }
     Ok(())

@@ -1,15 +1,10 @@
 // Settings of two grids as they are stored; those of grid 1 were changed, and its last record holds. It differs from that of grid 2 in
 // the kind of touching alone.
-use settings::{Settings, Writing};
+use settings::Settings;
 
 // Settings are written behind the first n bytes; the new length, or n where they are not written.
 fn add(bytes: &mut [u8], n: usize, grid: u64, s: Settings) -> usize {
-    match settings::write(bytes, n, grid, s) {
-        Writing::Length(m) => m,
-        Writing::Overlong => n,
-        Writing::Refused(_) => n,
-        Writing::NoRoom(_) => n,
-    }
+    settings::write(bytes, n, grid, s).unwrap_or(n)
 }
 
 fn at(edge: u8, kind: u8, x: i32, y: i32) -> Settings {

@@ -1,125 +1,120 @@
 // What is told of reports, batches and entities, a line each.
-use ask::{IdOf, KindOf, Where};
-use component::CellId;
+use component::{CellCoord, CellId};
 use refusal::Refusal;
-use settings::Reading;
-use std::io;
+use settings::{ReadError, Settings};
 use std::io::Write;
+use std::{fmt, io};
 
-fn say<W: Write>(out: &mut W, text: &[u8]) -> io::Result<()> {
-    out.write_all(text)
+// Coordinates, in the order of the axes.
+#[derive(Clone, Copy)]
+struct PlaceShown {
+    of: CellCoord,
 }
 
-fn number<W: Write>(out: &mut W, text: &[u8], n: u64) -> io::Result<()> {
-    say(out, text)?;
-    write!(out, "{n}")
-}
-
-// A coordinate, from its stored form, which is 2^31 more.
-fn coordinate<W: Write>(out: &mut W, n: u64) -> io::Result<()> {
-    let zero = component::bias(0);
-    if n < zero {
-        return number(out, b" -", zero - n);
+impl fmt::Display for PlaceShown {
+    fn fmt<W: fmt::Write>(&self, f: &mut fmt::Formatter<W>) -> fmt::Result {
+        let c = self.of;
+        write!(f, "{} {} {}", c.x, c.y, c.z)
     }
-    number(out, b" ", n - zero)
 }
 
-fn cell<W: Write>(out: &mut W, c: CellId) -> io::Result<()> {
-    let d = component::stored(c);
-    coordinate(out, d.x)?;
-    coordinate(out, d.y)?;
-    coordinate(out, d.z)
+// A refusal: its number, and where the fault is.
+#[derive(Clone, Copy)]
+struct RefusalShown {
+    by: Refusal,
+}
+
+impl fmt::Display for RefusalShown {
+    fn fmt<W: fmt::Write>(&self, f: &mut fmt::Formatter<W>) -> fmt::Result {
+        let r = self.by;
+        write!(f, "refused {} at {} axis {}", r.number(), r.at(), r.axis())
+    }
 }
 
 // What the reader says of a grid: its edge, its touching kind and its origin.
-pub fn settings<W: Write>(out: &mut W, grid: u64, r: Reading) -> io::Result<()> {
-    number(out, b"settings of grid ", grid)?;
-    say(out, b": ")?;
-    match r {
-        Reading::Found(s) => {
-            number(out, b"edge ", s.edge as u64)?;
-            number(out, b" kind ", s.kind as u64)?;
-            say(out, b" origin")?;
-            coordinate(out, component::bias(s.x))?;
-            coordinate(out, component::bias(s.y))?;
-            coordinate(out, component::bias(s.z))?;
-        }
-        Reading::NotFound => say(out, b"not found")?,
-        Reading::Overlong => say(out, b"overlong")?,
-        Reading::Faulty(_, at) => number(out, b"faulty at ", at as u64)?,
+pub fn settings<W: Write>(
+    out: &mut W,
+    grid: u64,
+    read: Result<Option<Settings>, ReadError>,
+) -> io::Result<()> {
+    write!(out, "settings of grid {grid}: ")?;
+    match read {
+        Ok(Some(s)) => writeln!(
+            out,
+            "edge {} kind {} origin {} {} {}",
+            s.edge, s.kind, s.x, s.y, s.z
+        ),
+        Ok(None) => writeln!(out, "not found"),
+        Err(ReadError::Overlong) => writeln!(out, "overlong"),
+        Err(ReadError::Faulty(_, at)) => writeln!(out, "faulty at {at}"),
     }
-    say(out, b"\n")
 }
 
 // What a fresh state was answered by, and what touching means in it.
-pub fn fresh<W: Write>(out: &mut W, state: &[u64], code: u64) -> io::Result<()> {
-    number(out, b"fresh state: code ", code)?;
+pub fn fresh<W: Write>(out: &mut W, state: &[u64], made: Result<(), Refusal>) -> io::Result<()> {
+    let code = match made {
+        Ok(()) => 0,
+        Err(r) => r.number(),
+    };
+    write!(out, "fresh state: code {code} ")?;
     match ask::kind_of(state) {
-        KindOf::Is(kind) => {
-            number(out, b" kind ", kind)?;
-            say(out, b"\n")
+        Ok(kind) => writeln!(out, "kind {kind}"),
+        Err(by) => {
+            let refused = RefusalShown { by };
+            writeln!(out, "{refused}")
         }
-        KindOf::Refused(r) => refusal(out, b" refused ", r),
     }
 }
 
 pub fn event<W: Write>(out: &mut W, entity: u64, c: CellId) -> io::Result<()> {
-    number(out, b"report of ", entity)?;
-    say(out, b": to")?;
-    cell(out, c)?;
-    say(out, b"\n")
+    let place = PlaceShown { of: c.coord };
+    writeln!(out, "report of {entity}: to {place}")
 }
 
 pub fn none<W: Write>(out: &mut W, entity: u64) -> io::Result<()> {
-    number(out, b"report of ", entity)?;
-    say(out, b": no event\n")
+    writeln!(out, "report of {entity}: no event")
 }
 
-// A refusal: its number, and where the fault is.
-fn refusal<W: Write>(out: &mut W, said: &[u8], r: Refusal) -> io::Result<()> {
-    number(out, said, r.number)?;
-    number(out, b" at ", r.at)?;
-    number(out, b" axis ", r.axis)?;
-    say(out, b"\n")
-}
-
-pub fn refused<W: Write>(out: &mut W, entity: u64, r: Refusal) -> io::Result<()> {
-    number(out, b"report of ", entity)?;
-    refusal(out, b": refused ", r)
+pub fn refused<W: Write>(out: &mut W, entity: u64, by: Refusal) -> io::Result<()> {
+    let refused = RefusalShown { by };
+    writeln!(out, "report of {entity}: {refused}")
 }
 
 // What a batch was answered by; of a refused one also where the fault is.
-pub fn batch<W: Write>(out: &mut W, moves: u64, r: Refusal) -> io::Result<()> {
-    number(out, b"batch of ", moves)?;
-    if r.number != 0 {
-        return refusal(out, b" moves: refused ", r);
+pub fn batch<W: Write>(out: &mut W, moves: u64, answer: Result<(), Refusal>) -> io::Result<()> {
+    write!(out, "batch of {moves} moves: ")?;
+    match answer {
+        Ok(()) => writeln!(out, "code 0"),
+        Err(by) => {
+            let refused = RefusalShown { by };
+            writeln!(out, "{refused}")
+        }
     }
-    say(out, b" moves: code 0\n")
 }
 
 // Where an entity stands, and the id of its group.
 pub fn stands<W: Write>(out: &mut W, state: &[u64], entity: u64) -> io::Result<()> {
     match ask::where_is(state, entity) {
-        Where::Found(c) => {
-            number(out, b"entity ", entity)?;
-            cell(out, c)?;
+        Ok(Some(c)) => {
+            let place = PlaceShown { of: c.coord };
+            write!(out, "entity {entity} {place} ")?;
             group(out, state, c)
         }
-        Where::NotFound => {
-            number(out, b"entity ", entity)?;
-            say(out, b" stands nowhere\n")
+        Ok(None) => writeln!(out, "entity {entity} stands nowhere"),
+        Err(by) => {
+            let refused = RefusalShown { by };
+            writeln!(out, "{refused}")
         }
-        Where::Refused(r) => refusal(out, b"refused ", r),
     }
 }
 
 fn group<W: Write>(out: &mut W, state: &[u64], c: CellId) -> io::Result<()> {
     match ask::id_of(state, c) {
-        IdOf::Found(id) => {
-            number(out, b" group ", id)?;
-            say(out, b"\n")
+        Ok(Some(id)) => writeln!(out, "group {id}"),
+        Ok(None) => writeln!(out, "no group"),
+        Err(by) => {
+            let refused = RefusalShown { by };
+            writeln!(out, "{refused}")
         }
-        IdOf::NotFound => say(out, b" no group\n"),
-        IdOf::Refused(r) => refusal(out, b" refused ", r),
     }
 }

@@ -3,7 +3,7 @@ ghost use Rattle.std.specs.Prelude.{◌≡◌};
 ghost use Rattle.script.specs.Records.{step_len};
 
 // What a record of a move says; a coordinate is a word of 64 bits in two's complement.
-#[derive(Clone, Copy)]
+#[derive(Clone, Copy, Debug, PartialEq, Eq)]
 pub struct Moved {
     pub entity: u64,
     pub grid: u64,
@@ -13,7 +13,7 @@ pub struct Moved {
 }
 
 // What stands at the start of some bytes.
-#[derive(Clone, Copy)]
+#[derive(Clone, Copy, Debug, PartialEq, Eq)]
 pub enum Step {
     Remove(u64),
     Move(Moved),
@@ -34,8 +34,6 @@ pub fn step_len(s: Step) -> usize
         Step::Remove(_) => 10,
         Step::Move(_) => 30,
         Step::Run => 2,
-        Step::Bad => 0,
-        Step::More => 0,
-        Step::Done => 0,
+        Step::Bad | Step::More | Step::Done => 0,
     }
 }

@@ -8,12 +8,9 @@ fn put_text(out: &mut [u8], at: usize, bytes: &[u8]) -> usize
     requires { at + length bytes.now ≤ length out.old }
     ensures { ((result, out.new) ≡ put out.old at bytes.now) × (result ≡ at + length bytes.now) }
 {
-    let mut i = 0;
-    while i < bytes.len() {
-        out[at + i] = bytes[i];
-        i += 1;
-    }
-    at + i
+    let end = at + bytes.len();
+    out[at..end].copy_from_slice(bytes);
+    end
 }
 
 // The byte of a digit.
@@ -86,26 +83,29 @@ fn put_cell(out: &mut [u8], mark: u8, grid: u64, x: u64, y: u64, z: u64) -> usiz
     put_axis(out, d, z)
 }
 
-// A cell became occupied.
-pub fn entered_line(out: &mut [u8], grid: u64, x: u64, y: u64, z: u64) -> usize
-    ensures { (result, out.new) ≡ line_of (entered_line grid x y z) out.old }
+// A mark and a cell.
+fn marked_line(out: &mut [u8], mark: u8, grid: u64, x: u64, y: u64, z: u64) -> usize
+    ensures { (result, out.new) ≡ line_of (cell_text (mark ∷ []) grid x y z ++ text "\n") out.old }
 {
     if out.len() < 128 {
         return 0;
     }
-    let at = put_cell(out, b'+', grid, x, y, z);
+    let at = put_cell(out, mark, grid, x, y, z);
     little_endian::put_byte(out, at, b'\n')
+}
+
+// A cell became occupied.
+pub fn entered_line(out: &mut [u8], grid: u64, x: u64, y: u64, z: u64) -> usize
+    ensures { (result, out.new) ≡ line_of (entered_line grid x y z) out.old }
+{
+    marked_line(out, b'+', grid, x, y, z)
 }
 
 // A cell became empty.
 pub fn left_line(out: &mut [u8], grid: u64, x: u64, y: u64, z: u64) -> usize
     ensures { (result, out.new) ≡ line_of (left_line grid x y z) out.old }
 {
-    if out.len() < 128 {
-        return 0;
-    }
-    let at = put_cell(out, b'-', grid, x, y, z);
-    little_endian::put_byte(out, at, b'\n')
+    marked_line(out, b'-', grid, x, y, z)
 }
 
 // An occupied cell and its id.

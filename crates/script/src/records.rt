@@ -4,7 +4,7 @@ ghost use Rattle.script.specs.Records.{widened, length_of, moved_of, record_of, 
 
 use crate::kinds::{Moved, Step};
 
-// A coordinate of 32 bits as a word of 64.
+// A coordinate of 32 bits as a word of 64. A sum, since by way of `i32` and `i64` it takes four casts.
 fn widen(n: u64) -> u64
     requires { n < 4294967296 }
     ensures { result ≡ widened n }
@@ -20,16 +20,12 @@ fn widen(n: u64) -> u64
 fn length_of(mark: u8) -> usize
     ensures { result ≡ length_of mark }
 {
-    if mark == b'R' {
-        return 10;
+    match mark {
+        b'R' => 10,
+        b'M' => 30,
+        b'U' => 2,
+        _ => 0,
     }
-    if mark == b'M' {
-        return 30;
-    }
-    if mark == b'U' {
-        return 2;
-    }
-    0
 }
 
 // The move whose record the bytes start with.
@@ -37,17 +33,12 @@ fn moved_of(bytes: &[u8]) -> Moved
     requires { 30 ≤ length bytes.now }
     ensures { result ≡ moved_of bytes.now }
 {
-    let entity = little_endian::word8(bytes, 2);
-    let grid = little_endian::word8(bytes, 10);
-    let x = widen(little_endian::word4(bytes, 18));
-    let y = widen(little_endian::word4(bytes, 22));
-    let z = widen(little_endian::word4(bytes, 26));
     Moved {
-        entity,
-        grid,
-        x,
-        y,
-        z,
+        entity: little_endian::number::<8>(bytes, 2),
+        grid: little_endian::number::<8>(bytes, 10),
+        x: widen(little_endian::number::<4>(bytes, 18)),
+        y: widen(little_endian::number::<4>(bytes, 22)),
+        z: widen(little_endian::number::<4>(bytes, 26)),
     }
 }
 
@@ -56,13 +47,11 @@ fn record_of(bytes: &[u8], mark: u8) -> Step
     requires { length_of mark ≤ length bytes.now }
     ensures { result ≡ record_of mark bytes.now }
 {
-    if mark == b'R' {
-        return Step::Remove(little_endian::word8(bytes, 2));
+    match mark {
+        b'R' => Step::Remove(little_endian::number::<8>(bytes, 2)),
+        b'M' => Step::Move(moved_of(bytes)),
+        _ => Step::Run,
     }
-    if mark == b'M' {
-        return Step::Move(moved_of(bytes));
-    }
-    Step::Run
 }
 
 // What a record that is cut short is.

@@ -17,7 +17,7 @@ pub const MOVES_LEN: usize = MOVE_WIDTH * MOST_EVENTS;
 
 // Bytes `at` to `end` of the buffer are still to be read; the buffer's first byte is number `base` of the input; `last` says that the
 // input has no bytes behind the buffer's.
-#[derive(Clone, Copy)]
+#[derive(Clone, Copy, Debug, PartialEq, Eq)]
 pub struct Reader {
     pub at: usize,
     pub end: usize,
@@ -25,8 +25,9 @@ pub struct Reader {
     pub last: bool,
 }
 
-// How many removals and moves are kept of a batch, and whether there were more than are kept.
-#[derive(Clone, Copy)]
+// How many removals and moves are kept of a batch, and whether there were more than are kept; the counts tell of those that are kept
+// either way.
+#[derive(Clone, Copy, Debug, PartialEq, Eq)]
 pub struct Events {
     pub removals: usize,
     pub moves: usize,
@@ -34,10 +35,8 @@ pub struct Events {
 }
 
 // Why the records of a batch end.
-#[derive(Clone, Copy)]
+#[derive(Clone, Copy, Debug, PartialEq, Eq)]
 pub enum Ending {
-    // They do not end yet.
-    Reading,
     // By a record that runs the batch.
     Run,
     // By a wrong mark or a cut record.
@@ -47,18 +46,12 @@ pub enum Ending {
 }
 
 // What is read of a batch.
-#[derive(Clone, Copy)]
+#[derive(Clone, Copy, Debug, PartialEq, Eq)]
 pub struct Gathered {
     pub reader: Reader,
     pub events: Events,
-    pub ending: Ending,
-}
-
-// A count of bytes as a word.
-fn word(n: usize) -> u64
-    ensures { result ≡ n }
-{
-    n as u64
+    // None while the records do not end yet.
+    pub ending: Option<Ending>,
 }
 
 // Nothing is read yet.
@@ -75,7 +68,7 @@ pub fn first_reader() -> Reader
 
 // The number of the next byte in the input, from 0.
 pub fn offset(r: Reader) -> u64 {
-    std::num::wrapping_add_u64(r.base, word(r.at))
+    r.base.wrapping_add(r.at as u64)
 }
 
 // What stands next in the buffer; its bytes are among those still to be read.
@@ -93,35 +86,26 @@ fn passed(r: Reader, n: usize) -> Reader
     requires { r.at + n ≤ r.end }
     ensures { (result.at ≡ r.at + n) × (result.end ≡ r.end) }
 {
-    let at = r.at;
-    Reader {
-        at: at + n,
-        end: r.end,
-        base: r.base,
-        last: r.last,
-    }
+    Reader { at: r.at + n, ..r }
 }
 
 // The n bytes from a place on come to the front.
 fn to_front(bytes: &mut [u8], from: usize, n: usize)
     requires { from + n ≤ length bytes.old }
 {
-    let mut i = 0;
-    while i < n {
-        bytes[i] = bytes[from + i];
-        i += 1;
-    }
+    bytes.copy_within(from..from + n, 0);
 }
 
 // Bytes are read until the buffer is full or the input ends; the answer is how many there are. After an error the bytes that were read
 // stand at the buffer's start, and are not counted.
-fn read_full<R: Read>(from: &mut R, buf: &mut [u8]) -> io::Result<usize>
+pub fn read_full<R: Read>(from: &mut R, buf: &mut [u8]) -> io::Result<usize>
     ensures bound { ReadsAtMost result buf.new }
     ensures ok { IfOk result (λ n. Consumes (R.remaining from.old) (R.remaining from.new) (take n buf.new)) }
     ensures end { IfOk result (λ n. n < length buf.old → IsAtEnd (R.remaining from.new)) }
     ensures moves { MovesOn (R.remaining from.old) (R.remaining from.new) }
 {
     let mut done = 0;
+    // A while: how many bytes a read gives is known only behind it.
     while done < buf.len() {
         let n = from.read(&mut buf[done..])?;
         if n == 0 {
@@ -158,19 +142,13 @@ fn add_removal(removals: &mut [u64; MOST_EVENTS], v: Events, entity: u64) -> Eve
     ensures { Counts result }
 {
     let n = v.removals;
-    let m = v.moves;
-    if n + m >= MOST_EVENTS {
-        return Events {
-            removals: n,
-            moves: m,
-            over: true,
-        };
+    if n + v.moves >= MOST_EVENTS {
+        return Events { over: true, ..v };
     }
     removals[n] = entity;
     Events {
         removals: n + 1,
-        moves: m,
-        over: v.over,
+        ..v
     }
 }
 
@@ -179,25 +157,13 @@ fn add_move(moves: &mut [u64; MOVES_LEN], v: Events, to: Moved) -> Events
     requires { Counts v }
     ensures { Counts result }
 {
-    let n = v.removals;
     let m = v.moves;
-    if n + m >= MOST_EVENTS {
-        return Events {
-            removals: n,
-            moves: m,
-            over: true,
-        };
+    if v.removals + m >= MOST_EVENTS {
+        return Events { over: true, ..v };
     }
-    moves[MOVE_WIDTH * m] = to.entity;
-    moves[MOVE_WIDTH * m + 1] = to.grid;
-    moves[MOVE_WIDTH * m + 2] = to.x;
-    moves[MOVE_WIDTH * m + 3] = to.y;
-    moves[MOVE_WIDTH * m + 4] = to.z;
-    Events {
-        removals: n,
-        moves: m + 1,
-        over: v.over,
-    }
+    let at = MOVE_WIDTH * m;
+    moves[at..at + MOVE_WIDTH].copy_from_slice(&[to.entity, to.grid, to.x, to.y, to.z]);
+    Events { moves: m + 1, ..v }
 }
 
 // One record is read, or more bytes are. After an error nothing is kept of the batch.
@@ -215,54 +181,40 @@ fn take<R: Read>(
     let r = g.reader;
     let v = g.events;
     let s = next_step(input, r);
-    let next = passed(r, step_len(s));
-    let taken = match s {
+    let next = Gathered {
+        reader: passed(r, step_len(s)),
+        events: v,
+        ending: None,
+    };
+    Ok(match s {
         Step::Remove(e) => Gathered {
-            reader: next,
             events: add_removal(removals, v, e),
-            ending: Ending::Reading,
+            ..next
         },
         Step::Move(m) => Gathered {
-            reader: next,
             events: add_move(moves, v, m),
-            ending: Ending::Reading,
+            ..next
         },
         Step::Run => Gathered {
-            reader: next,
-            events: v,
-            ending: Ending::Run,
+            ending: Some(Ending::Run),
+            ..next
         },
         Step::Bad => Gathered {
-            reader: next,
-            events: v,
-            ending: Ending::Bad,
+            ending: Some(Ending::Bad),
+            ..next
         },
         Step::More => Gathered {
             reader: refill(from, input, r)?,
-            events: v,
-            ending: Ending::Reading,
+            ..next
         },
         Step::Done => Gathered {
-            reader: next,
-            events: v,
-            ending: Ending::Out,
+            ending: Some(Ending::Out),
+            ..next
         },
-    };
-    Ok(taken)
+    })
 }
 
-// Whether the records of a batch do not end yet.
-fn is_reading(g: Gathered) -> bool {
-    let e = g.ending;
-    match e {
-        Ending::Reading => true,
-        Ending::Run => false,
-        Ending::Bad => false,
-        Ending::Out => false,
-    }
-}
-
-// The records of a batch are read. The turns are counted down from a number that no input uses up, so the loop is seen to end.
+// The records of a batch are read. The turns come to a number that no input uses up, so the loop is seen to end.
 // After an error nothing is kept of the batch, and reading does not go on.
 pub fn gather<R: Read>(
     from: &mut R,
@@ -282,12 +234,13 @@ pub fn gather<R: Read>(
             moves: 0,
             over: false,
         },
-        ending: Ending::Reading,
+        ending: None,
     };
-    let mut turns = u64::MAX;
-    while turns > 0 && is_reading(g) {
+    for _turns in 0..u64::MAX {
+        if g.ending.is_some() {
+            break;
+        }
         g = take(from, input, removals, moves, g)?;
-        turns -= 1;
     }
     Ok(g)
 }

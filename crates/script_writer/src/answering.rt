@@ -4,11 +4,12 @@ ghost use Rattle.model.specs.Update.{most_cells};
 ghost use Rattle.layout.specs.Widths.{net_width, id_width};
 ghost use Rattle.script_writer.specs.Written.{Grows};
 
-use crate::lines::{Line, put};
+use crate::lines::{Line, Place, put};
 use layout::{
     CELL_ID, EMPTIED, EMPTIED_COUNT, ID_COUNT, ID_WIDTH, IDS, MOST_CELLS, NET_WIDTH, OCCUPIED,
     OCCUPIED_COUNT, STATE_LEN,
 };
+use refusal::Refusal;
 use std::io;
 use std::io::Write;
 
@@ -16,64 +17,39 @@ use std::io::Write;
 fn rows(n: u64) -> usize
     ensures { result ≤ most_cells }
 {
-    if n < MOST_CELLS as u64 {
-        n as usize
-    } else {
-        MOST_CELLS
-    }
+    n.min(MOST_CELLS as u64) as usize
 }
 
-// A stored coordinate, which is 2^31 above the one meant, as a word in two's complement.
-fn axis(n: u64) -> u64 {
-    component::signed_word(n)
-}
-
-// The line of a newly occupied cell, or of a newly emptied one, whose row stands at at.
-fn net_line(state: &[u64], at: usize, is_entered: bool) -> Line
+// The cell whose row stands at at; its coordinates are stored 2^31 above those meant.
+fn place(state: &[u64], at: usize) -> Place
     requires { at + net_width ≤ length state.now }
 {
-    let grid = state[at];
-    let z = axis(state[at + 1]);
-    let y = axis(state[at + 2]);
-    let x = axis(state[at + 3]);
-    if is_entered {
-        Line::Entered(grid, x, y, z)
-    } else {
-        Line::Left(grid, x, y, z)
+    Place {
+        grid: state[at],
+        x: component::signed_word(state[at + 3]),
+        y: component::signed_word(state[at + 2]),
+        z: component::signed_word(state[at + 1]),
     }
-}
-
-// The line of a cell with an id, whose row stands at at.
-fn id_line(state: &[u64], at: usize) -> Line
-    requires { at + id_width ≤ length state.now }
-{
-    let grid = state[at];
-    let z = axis(state[at + 1]);
-    let y = axis(state[at + 2]);
-    let x = axis(state[at + 3]);
-    Line::Cell(grid, x, y, z, state[at + CELL_ID])
 }
 
 // The lines of the n rows of a net list, which stand from a place on. After an error some of them may have been put.
-fn put_net<W: Write>(
+fn put_net<W: Write, F: Fn(Place) -> Line>(
     to: &mut W,
     state: &[u64],
     from: usize,
     n: usize,
-    is_entered: bool,
+    line: F,
     output: &mut [u8],
     used: usize,
 ) -> io::Result<usize>
-    requires { (from + net_width * n ≤ length state.now) × (used ≤ length output.old) }
+    requires rows { (from + net_width * n ≤ length state.now) × (used ≤ length output.old) }
+    requires line { F.IsAlwaysCallable line }
     ensures ok { IfOk result (λ u. u ≤ length output.old) }
     ensures grows { Grows (W.contents to.old) (W.contents to.new) }
 {
     let mut u = used;
-    let mut i = 0;
-    while i < n {
-        let line = net_line(state, from + NET_WIDTH * i, is_entered);
-        u = put(to, output, u, line)?;
-        i += 1;
+    for i in 0..n {
+        u = put(to, output, u, line(place(state, from + NET_WIDTH * i)))?;
     }
     Ok(u)
 }
@@ -92,11 +68,14 @@ fn put_ids<W: Write>(
     ensures grows { Grows (W.contents to.old) (W.contents to.new) }
 {
     let mut u = used;
-    let mut i = 0;
-    while i < n {
-        let line = id_line(state, from + ID_WIDTH * i);
-        u = put(to, output, u, line)?;
-        i += 1;
+    for i in 0..n {
+        let at = from + ID_WIDTH * i;
+        u = put(
+            to,
+            output,
+            u,
+            Line::Cell(place(state, at), state[at + CELL_ID]),
+        )?;
     }
     Ok(u)
 }
@@ -109,7 +88,7 @@ pub fn answer<W: Write>(
     output: &mut [u8],
     used: usize,
     number: u64,
-    code: u64,
+    outcome: Result<(), Refusal>,
 ) -> io::Result<usize>
     requires { used ≤ length output.old }
     ensures ok { IfOk result (λ u. u ≤ length output.old) }
@@ -118,11 +97,12 @@ pub fn answer<W: Write>(
     let entered = rows(state[OCCUPIED_COUNT]);
     let left = rows(state[EMPTIED_COUNT]);
     let cells = rows(state[ID_COUNT]);
+    let code = outcome.err().map_or(0, Refusal::number);
     let a = put(to, output, used, Line::Batch(number, code))?;
-    if code != 0 {
+    if outcome.is_err() {
         return Ok(a);
     }
-    let b = put_net(to, state, OCCUPIED, entered, true, output, a)?;
-    let c = put_net(to, state, EMPTIED, left, false, output, b)?;
+    let b = put_net(to, state, OCCUPIED, entered, Line::Entered, output, a)?;
+    let c = put_net(to, state, EMPTIED, left, Line::Left, output, b)?;
     put_ids(to, state, IDS, cells, output, c)
 }

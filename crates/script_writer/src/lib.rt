@@ -5,4 +5,4 @@ mod answering;
 mod lines;
 
 pub use answering::answer;
-pub use lines::{Line, flush, put};
+pub use lines::{Line, Place, flush, put};

@@ -7,15 +7,24 @@ use script::{batch_line, cell_line, end_line, entered_line, left_line, open_line
 use std::io;
 use std::io::{ErrorKind, Write};
 
-// A line of the answer; a cell is its grid, x, y and z.
-#[derive(Clone, Copy)]
+// A cell as a line tells it: its grid, and its coordinates as words in two's complement.
+#[derive(Clone, Copy, Debug, PartialEq, Eq)]
+pub struct Place {
+    pub grid: u64,
+    pub x: u64,
+    pub y: u64,
+    pub z: u64,
+}
+
+// A line of the answer.
+#[derive(Clone, Copy, Debug, PartialEq, Eq)]
 pub enum Line {
     // The number of a batch, and the code that answers it.
     Batch(u64, u64),
-    Entered(u64, u64, u64, u64),
-    Left(u64, u64, u64, u64),
+    Entered(Place),
+    Left(Place),
     // A cell and its id.
-    Cell(u64, u64, u64, u64, u64),
+    Cell(Place, u64),
     // Where a record is bad.
     Wrong(u64),
     Open,
@@ -28,9 +37,9 @@ fn write_line(out: &mut [u8], line: Line) -> usize
 {
     match line {
         Line::Batch(n, code) => batch_line(out, n, code),
-        Line::Entered(g, x, y, z) => entered_line(out, g, x, y, z),
-        Line::Left(g, x, y, z) => left_line(out, g, x, y, z),
-        Line::Cell(g, x, y, z, id) => cell_line(out, g, x, y, z, id),
+        Line::Entered(c) => entered_line(out, c.grid, c.x, c.y, c.z),
+        Line::Left(c) => left_line(out, c.grid, c.x, c.y, c.z),
+        Line::Cell(c, id) => cell_line(out, c.grid, c.x, c.y, c.z, id),
         Line::Wrong(at) => wrong_line(out, at),
         Line::Open => open_line(out),
         Line::End => end_line(out),
@@ -43,6 +52,7 @@ fn write_all<W: Write>(to: &mut W, bytes: &[u8]) -> io::Result<()>
     ensures grows { Grows (W.contents to.old) (W.contents to.new) }
 {
     let mut done = 0;
+    // A while, and not the writer's own write_all, which does not say what was written before an error.
     while done < bytes.len() {
         let n = to.write(&bytes[done..])?;
         if n == 0 {

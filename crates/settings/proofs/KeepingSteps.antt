@@ -1,41 +1,28 @@
 -- Each way out of keeping the last records.
+use Rattle.std.specs.Prelude.{Option, Ok, Err, Some, None, ltb}
+use Rattle.settings.specs.Answers.{Reading}
+use Rattle.settings.specs.declared.kinds.ReadError.{ReadError}
+use Rattle.settings.specs.declared.kinds.ReadError.TheVariants as reading_error
 use Prim.Native.Nat.{ℕ, ◌-◌, ◌<◌, ◌≤◌}
 use native.Mathlib.Omega.{arith}
 use mathlib.Core.Path.{◌≡◌, refl, sym, ap, ◌∙◌}
-use mathlib.Core.Bool.{true}
-use mathlib.Core.Logic.{◌⊎◌, inl, inr}
-use mathlib.Core.List.{List, ◌++◌}
+use mathlib.Core.Bool.{Bool, true, false, cond}
+use mathlib.Core.List.{List, [], ◌++◌}
 use borrow.Author.Tests.{lt-ltb}
 use lib.ListN.{length, take, drop, replicate}
-use denote.Enum.Declared.{tag_of}
-use Rattle.settings.specs.contracts.kinds.Reading.{the_type}
-use Rattle.settings.specs.declared.kinds.Fault.{Fault}
-use Rattle.settings.specs.declared.kinds.Reading.{Reading}
-use Rattle.settings.specs.declared.kinds.Reading.TheVariants as reading
-use Rattle.settings.specs.declared.kinds.Keeping.TheVariants as keeping
+use Rattle.settings.specs.declared.kinds.Settings.{Settings}
 use Rattle.settings.specs.Parsing.{Records, whole, faulty, records_of}
-use Rattle.settings.specs.Reading.{tell}
+use Rattle.settings.specs.Reading.{last_of, tell}
+use Rattle.settings.specs.Records.{settings_of}
 use Rattle.settings.specs.Keeping.{keep_last, joined, kept_of, keep_of}
 use Rattle.settings.specs.Whole.{Whole, Gathered}
 use Rattle.settings.proofs.Laws.Keeping.{keep-in}
 use Rattle.settings.proofs.Laws.Parsing.{sound}
-use Rattle.settings.proofs.Laws.Reading.{tell-faulty}
 
--- The number of a reading is below that of one that tells a fault.
-pub low : {x : ℕ} → (x ≡ 0) ⊎ ((x ≡ 1) ⊎ (x ≡ 2)) → x < 3
-low (inl e) = omega arith
-low (inr (inl e)) = omega arith
-low (inr (inr e)) = omega arith
-
--- Bytes of which no fault is told are whole records.
-pub told-whole : (m : Records) {r : Reading} → r ≡ tell 0 m → tag_of the_type r < 3 → (rs : List (List ℕ)) × (m ≡ whole rs)
-told-whole (whole rs) e n = (rs, refl)
-told-whole (faulty f p) {r} e n = let x : tag_of the_type r ≡ 3 = ap (tag_of the_type) e in absurd (omega arith)
-
--- The same of a reading that is not one that tells a fault.
-pub whole-unless-faulty : (m : Records) {r : Reading} → r ≡ tell 0 m → ((f : Fault) (p : ℕ) → r ≡ reading.Faulty f p → ⊥) → (rs : List (List ℕ)) × (m ≡ whole rs)
-whole-unless-faulty (whole rs) e n = (rs, refl)
-whole-unless-faulty (faulty f p) e n = absurd (n f p e)
+-- Bytes that a reader takes are whole records.
+pub whole-unless-faulty : (m : Records) {o : Option Settings} → Ok o ≡ tell 0 m → (rs : List (List ℕ)) × (m ≡ whole rs)
+whole-unless-faulty (whole rs) e = (rs, refl)
+whole-unless-faulty (faulty f p) e = let z : ◌≡◌ {A = ℕ} 0 1 = cc in absurd (omega arith)
 
 -- Bytes that are read without a fault are whole records.
 pub is_whole : (b : List ℕ) {rs : List (List ℕ)} → records_of true b ≡ whole rs → Whole rs b
@@ -51,13 +38,24 @@ finished rs s n w {k} {t} {u} {v} g e d l =
       (d ∙ ap (λ (i : ℕ). replicate i 0) l) j,
     )
 
+told-by : (r : List ℕ) (b : Bool) {e : ReadError} {A : Type 0} → ◌≡◌ {A = Reading} (Err e) (cond b (Ok None) (Ok (Some (settings_of r)))) → A
+told-by r true e = let z : ◌≡◌ {A = ℕ} 0 1 = cc in absurd (omega arith)
+told-by r false e = let z : ◌≡◌ {A = ℕ} 0 1 = cc in absurd (omega arith)
+
 module _ (s : List ℕ) (n : ℕ) (t : List ℕ) where
-  pub overlong : length s < n → (keeping.Overlong, s, t) ≡ keep_of s n t
+  broken-by : {x : ReadError} → n ≤ length s → (m : Records) → records_of true (take n s) ≡ m → Err x ≡ tell 0 m → (Err x, s, t) ≡ keep_of s n t
+  broken-by {x} h (faulty f p) d e =
+      let q : x ≡ reading_error.Faulty f p = cc in
+      (λ j. (Err (q j), s, t)) ∙ sym (keep-in s n t h d)
+  broken-by h (whole rs) d e = told-by (last_of 0 [] rs) (ltb (length (last_of 0 [] rs)) 12) e
+
+  pub overlong : length s < n → (Err reading_error.Overlong, s, t) ≡ keep_of s n t
   unfolding keep_of
   overlong h = simp (lt-ltb _ _ h)
 
-  pub broken : {r : Reading} {f : Fault} {p : ℕ} → n ≤ length s → r ≡ tell 0 (records_of true (take n s)) → r ≡ reading.Faulty f p → (keeping.Faulty f p, s, t) ≡ keep_of s n t
-  broken h e d = sym (keep-in s n t h (tell-faulty 0 (records_of true (take n s)) (sym e ∙ d)))
+  -- What the reader refuses is refused.
+  pub broken : {e : ReadError} → n ≤ length s → Err e ≡ tell 0 (records_of true (take n s)) → (Err e, s, t) ≡ keep_of s n t
+  broken h e = broken-by h (records_of true (take n s)) refl e
 
-  pub done : (rs : List (List ℕ)) {k : ℕ} {u v : List ℕ} → n ≤ length s → records_of true (take n s) ≡ whole rs → (k, u, v) ≡ kept_of rs s n t → (keeping.Length k, u, v) ≡ keep_of s n t
-  done rs h e d = ap (λ (q : ℕ × List ℕ × List ℕ). (keeping.Length q.0, q.1, q.2)) d ∙ sym (keep-in s n t h e)
+  pub done : (rs : List (List ℕ)) {k : ℕ} {u v : List ℕ} → n ≤ length s → records_of true (take n s) ≡ whole rs → (k, u, v) ≡ kept_of rs s n t → (Ok k, u, v) ≡ keep_of s n t
+  done rs h e d = ap (λ (q : ℕ × List ℕ × List ℕ). (Ok q.0, q.1, q.2)) d ∙ sym (keep-in s n t h e)

@@ -1,8 +1,8 @@
+pub mod Answering
 pub mod Cases
 pub mod Gathering
 pub mod KeepingSteps
 pub mod Laws
-pub mod Moving
 pub mod Noting
 pub mod Parts
 pub mod ReadingSteps

@@ -1,7 +1,7 @@
 -- What it means that a record is the first faulty one.
+use Rattle.std.specs.Prelude.{Err}
 use Rattle.std.specs.Prelude.{ℕ, ◌+◌, ◌<◌, ◌≡◌, Bool, List, ◌++◌, length}
 use Rattle.settings.specs.declared.kinds.Fault.{Fault}
-use Rattle.settings.specs.declared.kinds.Check.TheVariants.{Bad}
 use Rattle.settings.specs.Records.{check_of}
 use Rattle.settings.specs.Keeping.{joined}
 use Rattle.settings.specs.Whole.{Ones}
@@ -14,4 +14,4 @@ pub record FirstFault (two : Bool) (at : ℕ) (b : List ℕ) (f : Fault) (p : �
   pub same : b ≡ joined before ++ behind
   pub place : p ≡ at + length (joined before)
   pub some : 0 < length behind
-  pub fault : check_of two behind ≡ Bad f
+  pub fault : check_of two behind ≡ Err f

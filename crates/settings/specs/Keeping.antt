@@ -1,9 +1,10 @@
 -- Keeping each grid's last record: what is answered, and the slice and the scratch after it.
+use Rattle.std.specs.Prelude.{Ok, Err}
+use Rattle.settings.specs.Answers.{Keeping}
+use Rattle.settings.specs.declared.kinds.ReadError.TheVariants as reading_error
 use Rattle.std.specs.Prelude.{ℕ, ◌-◌, Bool, true, false, cond, ◌||◌, List, [], ◌∷◌, ◌++◌, length, take, drop, replicate, ltb, eqb}
 use Rattle.settings.specs.Records.{grid_of}
 use Rattle.settings.specs.Parsing.{Records, whole, faulty, records_of}
-use Rattle.settings.specs.declared.kinds.Keeping.{Keeping}
-use Rattle.settings.specs.declared.kinds.Keeping.TheVariants.{Length, Overlong, Faulty}
 
 -- Some of the records is of a grid.
 unfoldable pub has : ℕ → List (List ℕ) → Bool
@@ -30,9 +31,9 @@ kept_of rs s n t = let b = joined (keep_last rs) in (length b, filled b s n, rep
 
 -- A fault is told and nothing written; else the last records are kept.
 abbrev pub keep_whole : List ℕ → ℕ → List ℕ → Records → Keeping × List ℕ × List ℕ
-keep_whole s n t (faulty f p) = (Faulty f p, s, t)
-keep_whole s n t (whole rs) = let k = kept_of rs s n t in (Length k.0, k.1, k.2)
+keep_whole s n t (faulty f p) = (Err (reading_error.Faulty f p), s, t)
+keep_whole s n t (whole rs) = let k = kept_of rs s n t in (Ok k.0, k.1, k.2)
 
 -- The same of the first n bytes of s, as a reader of version 2 reads them; a length above the slice's comes first.
 unfoldable pub keep_of : List ℕ → ℕ → List ℕ → Keeping × List ℕ × List ℕ
-keep_of s n t = cond (ltb (length s) n) (Overlong, s, t) (keep_whole s n t (records_of true (take n s)))
+keep_of s n t = cond (ltb (length s) n) (Err reading_error.Overlong, s, t) (keep_whole s n t (records_of true (take n s)))

@@ -1,3 +1,4 @@
+pub mod Answers
 pub mod Settings
 pub mod Records
 pub mod Parsing

@@ -1,9 +1,9 @@
 -- What bytes are: records one behind the other, of which the first faulty one decides.
+use Rattle.std.specs.Prelude.{Ok, Err}
+use Rattle.settings.specs.Answers.{Check}
 use Rattle.std.specs.Prelude.{ℕ, zero, suc, ◌+◌, Bool, cond, List, [], ◌∷◌, length, take, drop, eqb}
 use Rattle.settings.specs.Records.{size_of, check_of}
 use Rattle.settings.specs.declared.kinds.Fault.{Fault}
-use Rattle.settings.specs.declared.kinds.Check.{Check}
-use Rattle.settings.specs.declared.kinds.Check.TheVariants.{Fine, Bad}
 
 -- What bytes are: whole records, or a first faulty record with its fault and its place.
 pub data Records : Type 0 where
@@ -17,8 +17,8 @@ after r (faulty f p) = faulty f p
 
 -- A record that is bad is the first faulty one; behind one that is fine the others decide.
 abbrev pub decide : Check → ℕ → Records → Records
-decide Fine at rest = rest
-decide (Bad f) at rest = faulty f at
+decide (Ok tt) at rest = rest
+decide (Err f) at rest = faulty f at
 
 -- What bytes are that start at a place, up to k records.
 unfoldable pub parse : Bool → ℕ → ℕ → List ℕ → Records

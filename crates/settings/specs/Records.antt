@@ -1,12 +1,12 @@
 -- One record: a mark, `Y1` or `Y2`, a grid, an edge and a touching kind, and in version 2 three origin coordinates; the lowest byte first.
+use Rattle.std.specs.Prelude.{Err}
+use Rattle.settings.specs.Answers.{Check}
 use Rattle.std.specs.Prelude.{ℕ, ◌+◌, ◌%◌, Bool, cond, not, ◌&&◌, List, ◌∷◌, ◌++◌, length, get_or, take, ltb, eqb, ℤ, pos}
 use Rattle.component.specs.Stored.{biased, unbiased}
 use Rattle.little_endian.specs.Bytes.{number_at, bytes}
 use Rattle.settings.specs.Settings.{good_of}
 use Rattle.settings.specs.declared.kinds.Settings.{Settings}
 use Rattle.settings.specs.declared.kinds.Fault.TheVariants.{NewerRecord, BadMark, CutEnd}
-use Rattle.settings.specs.declared.kinds.Check.{Check}
-use Rattle.settings.specs.declared.kinds.Check.TheVariants.{Bad}
 
 -- The signed number whose two's complement in 32 bits is n.
 abbrev pub signed_of : ℕ → ℤ
@@ -47,8 +47,8 @@ record_of g s = head_of g ++ (s.edge ∷ s.kind ∷ axes_of (bits_of s.x) (bits_
 -- What is wrong with the record that bytes start with, to a reader of version 2 or of version 1: a lone byte, mark, cut end, settings, in that order.
 unfoldable pub check_of : Bool → List ℕ → Check
 check_of two b =
-    cond (ltb (length b) 2) (Bad CutEnd)
-    (cond (eqb (size_of b) 0) (Bad BadMark)
-    (cond (not two && eqb (size_of b) 24) (Bad NewerRecord)
-    (cond (ltb (length b) (size_of b)) (Bad CutEnd)
+    cond (ltb (length b) 2) (Err CutEnd)
+    (cond (eqb (size_of b) 0) (Err BadMark)
+    (cond (not two && eqb (size_of b) 24) (Err NewerRecord)
+    (cond (ltb (length b) (size_of b)) (Err CutEnd)
     (good_of (settings_of (take (size_of b) b))))))

@@ -1,10 +1,10 @@
 -- Which settings may be: the edge, the touching kind, the origin.
+use Rattle.std.specs.Prelude.{Ok, Err}
+use Rattle.settings.specs.Answers.{Check}
 use Rattle.std.specs.Prelude.{ℕ, Bool, cond, not, ◌&&◌, ◌||◌, eqb, ℤ, pos, negsuc}
 use Rattle.std.specs.Int.Signed.{le_z}
 use Rattle.settings.specs.declared.kinds.Settings.{Settings}
 use Rattle.settings.specs.declared.kinds.Fault.TheVariants.{BadEdge, BadKind, BadOrigin}
-use Rattle.settings.specs.declared.kinds.Check.{Check}
-use Rattle.settings.specs.declared.kinds.Check.TheVariants.{Fine, Bad}
 
 -- An edge is 1, 2, 4, 8, 16, 32 or 64 metres.
 abbrev pub edge_ok : ℕ → Bool
@@ -25,7 +25,7 @@ origin_ok s = axis_ok s.x && (axis_ok s.y && axis_ok s.z)
 -- What is wrong with settings: edge, kind, origin, in that order.
 unfoldable pub good_of : Settings → Check
 good_of s =
-    cond (not (edge_ok s.edge)) (Bad BadEdge)
-    (cond (not (kind_ok s.kind)) (Bad BadKind)
-    (cond (not (origin_ok s)) (Bad BadOrigin)
-    Fine))
+    cond (not (edge_ok s.edge)) (Err BadEdge)
+    (cond (not (kind_ok s.kind)) (Err BadKind)
+    (cond (not (origin_ok s)) (Err BadOrigin)
+    (Ok tt)))

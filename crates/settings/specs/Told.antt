@@ -1,16 +1,12 @@
 -- What the paper tells of each answer: number 0 where the call did what was asked, number 8 where there is no room, and names for the rest.
+use Rattle.std.specs.Prelude.{Ok, Err, Some, None}
+use Rattle.settings.specs.Answers.{Check, Reading, Writing, Keeping}
+use Rattle.settings.specs.declared.kinds.ReadError.TheVariants as reading_error
+use Rattle.settings.specs.declared.kinds.WriteError.TheVariants as writing_error
 use Rattle.std.specs.Prelude.{ℕ, Bool, true, false, not, ◌&&◌, ◌≡◌, eqb}
 use Prim.Native.String.{String}
 use Rattle.settings.specs.declared.kinds.Fault.{Fault}
 use Rattle.settings.specs.declared.kinds.Fault.TheVariants.{NewerRecord, BadMark, CutEnd, BadEdge, BadKind, BadOrigin}
-use Rattle.settings.specs.declared.kinds.Check.{Check}
-use Rattle.settings.specs.declared.kinds.Check.TheVariants.{Fine, Bad}
-use Rattle.settings.specs.declared.kinds.Reading.{Reading}
-use Rattle.settings.specs.declared.kinds.Reading.TheVariants as reading
-use Rattle.settings.specs.declared.kinds.Writing.{Writing}
-use Rattle.settings.specs.declared.kinds.Writing.TheVariants as writing
-use Rattle.settings.specs.declared.kinds.Keeping.{Keeping}
-use Rattle.settings.specs.declared.kinds.Keeping.TheVariants as keeping
 use Rattle.settings.specs.Parsing.{Records, whole, faulty}
 
 -- What is told: a number, a name, or a name with a place.
@@ -30,23 +26,23 @@ name_of BadOrigin = "bad origin"
 
 -- What is told of a reader's answer; beside 0 stand the settings.
 abbrev pub reading_told : Reading → Told
-reading_told (reading.Found s) = number 0
-reading_told reading.NotFound = name "not found"
-reading_told reading.Overlong = name "overlong"
-reading_told (reading.Faulty f p) = name_at (name_of f) p
+reading_told (Ok (Some s)) = number 0
+reading_told (Ok None) = name "not found"
+reading_told (Err reading_error.Overlong) = name "overlong"
+reading_told (Err (reading_error.Faulty f p)) = name_at (name_of f) p
 
 -- What is told of the writer's answer; beside 0 stands the new length, beside 8 the length needed.
 abbrev pub writing_told : Writing → Told
-writing_told (writing.Length n) = number 0
-writing_told writing.Overlong = name "overlong"
-writing_told (writing.Refused f) = name (name_of f)
-writing_told (writing.NoRoom n) = number 8
+writing_told (Ok n) = number 0
+writing_told (Err writing_error.Overlong) = name "overlong"
+writing_told (Err (writing_error.Refused f)) = name (name_of f)
+writing_told (Err (writing_error.NoRoom n)) = number 8
 
 -- What is told of the answer of keeping; beside 0 stands the new length.
 abbrev pub keeping_told : Keeping → Told
-keeping_told (keeping.Length n) = number 0
-keeping_told keeping.Overlong = name "overlong"
-keeping_told (keeping.Faulty f p) = name_at (name_of f) p
+keeping_told (Ok n) = number 0
+keeping_told (Err reading_error.Overlong) = name "overlong"
+keeping_told (Err (reading_error.Faulty f p)) = name_at (name_of f) p
 
 -- What is told is a certain number.
 abbrev pub is_number : ℕ → Told → Bool
@@ -56,8 +52,8 @@ is_number n (name_at s p) = false
 
 -- Nothing is wrong.
 abbrev pub is_fine : Check → Bool
-is_fine Fine = true
-is_fine (Bad f) = false
+is_fine (Ok tt) = true
+is_fine (Err f) = false
 
 -- Bytes are whole records.
 abbrev pub is_whole : Records → Bool

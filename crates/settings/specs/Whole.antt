@@ -1,12 +1,12 @@
 -- Bytes that are whole records to a reader of version 2, and what is gathered of them.
+use Rattle.std.specs.Prelude.{Ok}
 use Rattle.std.specs.Prelude.{ℕ, ◌≤◌, ◌≡◌, Bool, true, List, [], ◌∷◌, length, take, drop}
-use Rattle.settings.specs.declared.kinds.Check.TheVariants.{Fine}
 use Rattle.settings.specs.Records.{size_of, check_of}
 use Rattle.settings.specs.Keeping.{joined}
 
 -- Bytes are one record with nothing wrong.
 pub record One (two : Bool) (r : List ℕ) : Type 0 where
-  pub fine : check_of two r ≡ Fine
+  pub fine : check_of two r ≡ Ok tt
   pub sized : size_of r ≡ length r
 
 -- Each of some bytes is one record.

@@ -7,11 +7,7 @@ pub fn move_down(s: &mut [u8], to: usize, at: usize, size: usize)
     requires { (to ≤ at) × (at + size ≤ length s.old) }
     ensures { s.new ≡ paste s.old to (drop at s.old) size }
 {
-    let mut i = 0;
-    while i < size {
-        s[to + i] = s[at + i];
-        i += 1;
-    }
+    s.copy_within(at..at + size, to);
 }
 
 // The bytes from a place to a place become zero.
@@ -19,10 +15,5 @@ pub fn clear(s: &mut [u8], from: usize, to: usize)
     requires { (from ≤ to) × (to ≤ length s.old) }
     ensures { s.new ≡ take from s.old ++ (replicate (to - from) 0 ++ drop to s.old) }
 {
-    let n = to - from;
-    let mut i = 0;
-    while i < n {
-        s[from + i] = 0;
-        i += 1;
-    }
+    s[from..to].fill(0);
 }

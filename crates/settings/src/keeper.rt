@@ -5,7 +5,7 @@ ghost use Rattle.settings.specs.Table.{mark_of, Known};
 ghost use Rattle.settings.specs.Whole.{Whole, Gathered};
 
 use crate::bytes::{clear, move_down};
-use crate::kinds::{Keeping, Reading};
+use crate::kinds::ReadError;
 use crate::reader::read_in;
 use crate::records::{grid_of, size_of};
 use crate::table::{clear_words, note, place_of};
@@ -15,6 +15,7 @@ fn has_grid(bytes: &[u8], grid: u64) -> bool
     ensures { (rs : List (List ℕ)) → Whole rs bytes.now → result ≡ has grid rs }
 {
     let mut at = 0;
+    // A while: how far the next record is stands in the record.
     while at < bytes.len() {
         let rest = &bytes[at..];
         let size = size_of(rest);
@@ -38,6 +39,7 @@ fn note_all(bytes: &[u8], t: &mut [u64])
     ensures { (rs : List (List ℕ)) → Whole rs bytes.now → Known (λ g. mark_of g 0 rs) t.new }
 {
     let mut at = 0;
+    // A while: how far the next record is stands in the record.
     while at < bytes.len() {
         let rest = &bytes[at..];
         let end = at + size_of(rest);
@@ -67,17 +69,17 @@ fn gather(s: &mut [u8], n: usize, t: &[u64]) -> usize
 {
     let mut at = 0;
     let mut to = 0;
+    // A while: how far the next record is stands in the record.
     while at < n {
         let rest = &s[at..n];
         let size = size_of(rest);
         let grid = grid_of(rest);
-        let end = at + size;
-        if is_later(&s[end..n], t, grid) {
-            at = end;
-        } else {
-            move_down(s, to, at, size);
+        let start = at;
+        at += size;
+        let later = is_later(&s[at..n], t, grid);
+        if !later {
+            move_down(s, to, start, size);
             to += size;
-            at = end;
         }
     }
     to
@@ -96,17 +98,14 @@ fn keep_whole(s: &mut [u8], n: usize, scratch: &mut [u64]) -> usize
     length
 }
 
-// Of the first n bytes of a slice, each grid's last record is kept, and the rest of these bytes becomes zero. The scratch, which
-// makes it fast, becomes zero too.
-pub fn keep_last(s: &mut [u8], n: usize, scratch: &mut [u64]) -> Keeping
+// Of the first n bytes of a slice, each grid's last record is kept, and the rest of these bytes becomes zero; the new length. The
+// scratch, which makes it fast, becomes zero too.
+pub fn keep_last(s: &mut [u8], n: usize, scratch: &mut [u64]) -> Result<usize, ReadError>
     ensures { (result, s.new, scratch.new) ≡ keep_of s.old n scratch.old }
 {
     if s.len() < n {
-        return Keeping::Overlong;
+        return Err(ReadError::Overlong);
     }
-    let read = read_in(&s[..n], true, 0);
-    if let Reading::Faulty(f, at) = read {
-        return Keeping::Faulty(f, at);
-    }
-    Keeping::Length(keep_whole(s, n, scratch))
+    read_in(&s[..n], true, 0)?;
+    Ok(keep_whole(s, n, scratch))
 }

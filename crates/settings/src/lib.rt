@@ -10,6 +10,6 @@ mod table;
 mod writer;
 
 pub use keeper::keep_last;
-pub use kinds::{Fault, Keeping, Reading, Settings, Writing};
+pub use kinds::{Fault, ReadError, Settings, WriteError};
 pub use reader::{read_v1, read_v2};
 pub use writer::write;

@@ -3,57 +3,49 @@ ghost use Rattle.std.specs.Prelude.{◌≡◌, true, false};
 ghost use Rattle.settings.specs.Parsing.{records_of};
 ghost use Rattle.settings.specs.Reading.{tell, read_of};
 
-use crate::kinds::{Check, Reading};
+use crate::kinds::{ReadError, Settings};
 use crate::records::{check, grid_of, settings_of, size_of};
 
 // What a reader says of bytes that are all records.
-pub fn read_in(bytes: &[u8], two: bool, grid: u64) -> Reading
+pub fn read_in(bytes: &[u8], two: bool, grid: u64) -> Result<Option<Settings>, ReadError>
     ensures { result ≡ tell grid (records_of two bytes.now) }
 {
+    let mut held = None;
     let mut at = 0;
-    let mut held = 0;
-    let mut size = 0;
+    // A while: how far the next record is stands in the record.
     while at < bytes.len() {
         let rest = &bytes[at..];
-        match check(rest, two) {
-            Check::Bad(f) => {
-                return Reading::Faulty(f, at);
-            }
-            Check::Fine => {
-                let next = size_of(rest);
-                if grid_of(rest) == grid {
-                    held = at;
-                    size = next;
-                    at += next;
-                } else {
-                    at += next;
-                }
-            }
+        check(rest, two).map_err(|fault| ReadError::Faulty(fault, at))?;
+        let size = size_of(rest);
+        at += size;
+        if grid_of(rest) == grid {
+            held = Some(settings_of(&rest[..size]));
         }
     }
-    if size < 12 {
-        return Reading::NotFound;
+    Ok(held)
+}
+
+// What a reader of version 2, or of version 1, says of the first n bytes of a slice. The length stands beside the slice, since one
+// above the slice's has an answer.
+fn read(s: &[u8], n: usize, two: bool, grid: u64) -> Result<Option<Settings>, ReadError>
+    ensures { result ≡ read_of two s.now n grid }
+{
+    if s.len() < n {
+        return Err(ReadError::Overlong);
     }
-    let end = held + size;
-    Reading::Found(settings_of(&bytes[held..end]))
+    read_in(&s[..n], two, grid)
 }
 
 // What a reader of version 1 says of the first n bytes of a slice.
-pub fn read_v1(s: &[u8], n: usize, grid: u64) -> Reading
+pub fn read_v1(s: &[u8], n: usize, grid: u64) -> Result<Option<Settings>, ReadError>
     ensures { result ≡ read_of false s.now n grid }
 {
-    if s.len() < n {
-        return Reading::Overlong;
-    }
-    read_in(&s[..n], false, grid)
+    read(s, n, false, grid)
 }
 
 // What a reader of version 2 says of the first n bytes of a slice.
-pub fn read_v2(s: &[u8], n: usize, grid: u64) -> Reading
+pub fn read_v2(s: &[u8], n: usize, grid: u64) -> Result<Option<Settings>, ReadError>
     ensures { result ≡ read_of true s.now n grid }
 {
-    if s.len() < n {
-        return Reading::Overlong;
-    }
-    read_in(&s[..n], true, grid)
+    read(s, n, true, grid)
 }

@@ -4,7 +4,7 @@ ghost use Rattle.little_endian.specs.Bytes.{put};
 ghost use Rattle.settings.specs.Settings.{edge_ok, kind_ok, axis_ok, origin_ok, good_of};
 ghost use Rattle.settings.specs.Records.{bits_of, size_of, grid_of, axis_of, settings_of, check_of, head_of, axes_of, record_of};
 
-use crate::kinds::{Check, Fault, Settings};
+use crate::kinds::{Fault, Settings};
 
 // The length of the record that the bytes start with, by its mark; 0 where there is no mark.
 pub fn size_of(b: &[u8]) -> usize
@@ -31,7 +31,7 @@ pub fn grid_of(b: &[u8]) -> u64
     requires { 12 ≤ length b.now }
     ensures { result ≡ grid_of b.now }
 {
-    little_endian::word8(b, 2)
+    little_endian::number::<8>(b, 2)
 }
 
 // An origin coordinate of a record; 0 in a record of version 1.
@@ -42,7 +42,7 @@ fn axis_of(b: &[u8], at: usize) -> i32
     if b.len() < 24 {
         return 0;
     }
-    component::unbias(little_endian::word4(b, at) + 2_147_483_648)
+    component::unbias(little_endian::number::<4>(b, at) + 2_147_483_648)
 }
 
 // The settings that a record says.
@@ -59,66 +59,67 @@ pub fn settings_of(b: &[u8]) -> Settings
     }
 }
 
-// Whether an edge is a power of two from 1 to 64. Here and below `&` and `|` ask both sides and make no branch.
+// Whether an edge is a power of two from 1 to 64.
 fn edge_ok(e: u8) -> bool
     ensures { result ≡ edge_ok e }
 {
-    (e == 1) | ((e == 2) | ((e == 4) | ((e == 8) | ((e == 16) | ((e == 32) | (e == 64))))))
+    matches!(e, 1 | 2 | 4 | 8 | 16 | 32 | 64)
 }
 
 // Whether a touching kind is 6, 18 or 26.
 fn kind_ok(k: u8) -> bool
     ensures { result ≡ kind_ok k }
 {
-    (k == 6) | ((k == 18) | (k == 26))
+    matches!(k, 6 | 18 | 26)
 }
 
 // Whether an origin coordinate is within 1,048,576 of zero.
 fn axis_ok(n: i32) -> bool
     ensures { result ≡ axis_ok n }
 {
-    (-1_048_576 <= n) & (n <= 1_048_576)
+    (-1_048_576..=1_048_576).contains(&n)
 }
 
 // Whether each origin coordinate is within 1,048,576 of zero.
 fn origin_ok(s: Settings) -> bool
     ensures { result ≡ origin_ok s }
 {
-    axis_ok(s.x) & (axis_ok(s.y) & axis_ok(s.z))
+    axis_ok(s.x) && axis_ok(s.y) && axis_ok(s.z)
 }
 
 // What is wrong with settings: edge, kind, origin, in that order.
-pub fn good(s: Settings) -> Check
+pub fn good(s: Settings) -> Result<(), Fault>
     ensures { result ≡ good_of s }
 {
     if !edge_ok(s.edge) {
-        return Check::Bad(Fault::BadEdge);
+        return Err(Fault::BadEdge);
     }
     if !kind_ok(s.kind) {
-        return Check::Bad(Fault::BadKind);
+        return Err(Fault::BadKind);
     }
     if !origin_ok(s) {
-        return Check::Bad(Fault::BadOrigin);
+        return Err(Fault::BadOrigin);
     }
-    Check::Fine
+    Ok(())
 }
 
 // What is wrong with the record that the bytes start with: mark, cut end, edge, kind, origin, in that order.
-pub fn check(b: &[u8], two: bool) -> Check
+pub fn check(b: &[u8], two: bool) -> Result<(), Fault>
     ensures { result ≡ check_of two b.now }
 {
     if b.len() < 2 {
-        return Check::Bad(Fault::CutEnd);
+        return Err(Fault::CutEnd);
     }
     let size = size_of(b);
     if size == 0 {
-        return Check::Bad(Fault::BadMark);
+        return Err(Fault::BadMark);
     }
+    // `&` asks both sides and makes no branch.
     if !two & (size == 24) {
-        return Check::Bad(Fault::NewerRecord);
+        return Err(Fault::NewerRecord);
     }
     if b.len() < size {
-        return Check::Bad(Fault::CutEnd);
+        return Err(Fault::CutEnd);
     }
     good(settings_of(&b[..size]))
 }

@@ -7,11 +7,7 @@ ghost use Rattle.settings.specs.Table.{home_of, noted, Probed, Known};
 pub fn clear_words(t: &mut [u64])
     ensures { t.new ≡ replicate (length t.new) 0 }
 {
-    let mut i = 0;
-    while i < t.len() {
-        t[i] = 0;
-        i += 1;
-    }
+    t.fill(0);
 }
 
 // The first of the places that a grid may have.
@@ -27,17 +23,12 @@ pub fn place_of(t: &[u64], grid: u64) -> usize
     ensures { Probed t.now grid result }
 {
     let places = t.len() / 2;
-    let mut k = home(grid, places);
-    while k < places {
-        if t[2 * k] == 0 {
+    for k in home(grid, places)..places {
+        if t[2 * k] == 0 || t[2 * k + 1] == grid {
             return k;
         }
-        if t[2 * k + 1] == grid {
-            return k;
-        }
-        k += 1;
     }
-    k
+    places
 }
 
 // A grid's mark is noted, where there is a place for it.

@@ -2,25 +2,19 @@
 ghost use Rattle.std.specs.Prelude.{◌≡◌};
 ghost use Rattle.settings.specs.Writing.{write_of};
 
-use crate::kinds::{Check, Settings, Writing};
+use crate::kinds::{Settings, WriteError};
 use crate::records::{good, put_record};
 
-// A record of version 2 is written behind the first n bytes of a slice.
-pub fn write(s: &mut [u8], n: usize, grid: u64, settings: Settings) -> Writing
+// A record of version 2 is written behind the first n bytes of a slice; the new length.
+pub fn write(s: &mut [u8], n: usize, grid: u64, settings: Settings) -> Result<usize, WriteError>
     ensures { (result, s.new) ≡ write_of s.old n grid settings }
 {
     if s.len() < n {
-        return Writing::Overlong;
+        return Err(WriteError::Overlong);
     }
-    match good(settings) {
-        Check::Bad(f) => {
-            return Writing::Refused(f);
-        }
-        Check::Fine => {
-            if s.len() - n < 24 {
-                return Writing::NoRoom(n + 24);
-            }
-            return Writing::Length(put_record(s, n, grid, settings));
-        }
+    good(settings)?;
+    if s.len() - n < 24 {
+        return Err(WriteError::NoRoom(n + 24));
     }
+    Ok(put_record(s, n, grid, settings))
 }

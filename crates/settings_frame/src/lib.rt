@@ -12,9 +12,9 @@ pub fn frame_of(s: Settings) -> Frame
     ensures { result ≡ frame_of s }
 {
     Frame {
-        x: s.x as f64,
-        y: s.y as f64,
-        z: s.z as f64,
-        edge: s.edge as f64,
+        x: f64::from(s.x),
+        y: f64::from(s.y),
+        z: f64::from(s.z),
+        edge: f64::from(s.edge),
     }
 }

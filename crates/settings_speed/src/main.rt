@@ -1,16 +1,8 @@
 // Ten thousand records are written and each grid's last is kept, to be timed from outside: of as many grids, and of a hundred.
 #![tactic(auto)]
 
-use settings::{Keeping, Settings, Writing};
+use settings::{ReadError, Settings};
 use std::io;
-
-fn say(rt: &impl Print, text: &[u8]) -> io::Result<()> {
-    rt.write_all(text)
-}
-
-fn say_number(rt: &impl Print, n: usize) -> io::Result<()> {
-    print!(rt; "{n}")
-}
 
 // A record of a grid is written behind the first n bytes; the new length, or n where there is no room.
 fn add(s: &mut [u8], n: usize, grid: u64) -> usize {
@@ -21,63 +13,50 @@ fn add(s: &mut [u8], n: usize, grid: u64) -> usize {
         y: -50,
         z: 0,
     };
-    match settings::write(s, n, grid, a) {
-        Writing::Length(m) => m,
-        Writing::Overlong => n,
-        Writing::Refused(_) => n,
-        Writing::NoRoom(_) => n,
-    }
+    settings::write(s, n, grid, a).unwrap_or(n)
 }
 
-// The grid of record i: 10,000 near one another, 10,000 far apart, or a hundred.
-fn grid(pattern: u64, i: u64) -> u64 {
+// How the grids of the records lie.
+#[derive(Clone, Copy)]
+enum Pattern {
+    // 10,000 near one another.
+    Near,
+    // 10,000 far apart.
+    Far,
+    // A hundred, again and again.
+    Few,
+}
+
+// The grid of record i.
+fn grid(pattern: Pattern, i: u64) -> u64 {
     let k = i % 10_000;
-    if pattern == 0 {
-        return k;
+    match pattern {
+        Pattern::Near => k,
+        Pattern::Far => k * 1_000_000_006,
+        Pattern::Few => k % 100 * 40_000,
     }
-    if pattern == 1 {
-        return k * 1_000_000_006;
-    }
-    k % 100 * 40_000
 }
 
 // Ten thousand records are written.
-fn fill(s: &mut [u8], pattern: u64) -> usize {
-    let mut n = 0;
-    let mut i = 0;
-    while i < 10_000 {
-        n = add(s, n, grid(pattern, i));
-        i += 1;
-    }
-    n
+fn fill(s: &mut [u8], pattern: Pattern) -> usize {
+    (0..10_000).fold(0, |n, i| add(s, n, grid(pattern, i)))
 }
 
 // They are written, and each grid's last is kept.
-fn run(rt: &impl Print, s: &mut [u8], scratch: &mut [u64], pattern: u64) -> io::Result<()> {
+fn run(rt: &impl Print, s: &mut [u8], scratch: &mut [u64], pattern: Pattern) -> io::Result<()> {
     let n = fill(s, pattern);
-    say_number(rt, n)?;
     match settings::keep_last(s, n, scratch) {
-        Keeping::Length(m) => {
-            say(rt, b" bytes, kept ")?;
-            say_number(rt, m)?;
-        }
-        Keeping::Overlong => say(rt, b" overlong")?,
-        Keeping::Faulty(_, at) => {
-            say(rt, b" faulty at ")?;
-            say_number(rt, at)?;
-        }
+        Ok(kept) => println!(rt; "{n} bytes, kept {kept}"),
+        Err(ReadError::Overlong) => println!(rt; "{n} overlong"),
+        Err(ReadError::Faulty(_, at)) => println!(rt; "{n} faulty at {at}"),
     }
-    say(rt, b"\n")
-}
-
-fn all(rt: &impl Print, s: &mut [u8], scratch: &mut [u64]) -> io::Result<()> {
-    run(rt, s, scratch, 0)?;
-    run(rt, s, scratch, 1)?;
-    run(rt, s, scratch, 2)
 }
 
 fn main(rt: HostRuntime) -> io::Result<()> {
-    let mut s = [0u8; 240_000];
-    let mut scratch = [0u64; 40_000];
-    all(&rt, &mut s, &mut scratch)
+    let mut s = [0; 240_000];
+    let mut scratch = [0; 40_000];
+    for pattern in [Pattern::Near, Pattern::Far, Pattern::Few] {
+        run(&rt, &mut s, &mut scratch, pattern)?;
+    }
+    Ok(())
 }

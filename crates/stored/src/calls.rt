@@ -1,25 +1,10 @@
 // A row that calls, puts or shows, on the bytes and the words that are lent.
 use crate::shown;
-use case_rows::reading::{ROW_LEN, WORDS};
-use case_rows::words::place;
+use case_rows::keys::Word;
+use case_rows::reading::Row;
 use settings::Settings;
 use std::io;
 use std::io::Write;
-
-// The words of these rows, each letter a byte of a number.
-const READ: u64 = 0x72656164;
-
-const WRITE: u64 = 0x7772697465;
-
-const KEEP: u64 = 0x6b656570;
-
-const PUT: u64 = 0x707574;
-
-const OLD: u64 = 0x6f6c64;
-
-const SHOW_BYTES: u64 = 0x6279746573;
-
-const SHOW_WORDS: u64 = 0x776f726473;
 
 // A number of a row as a byte.
 pub fn byte(n: u64) -> u8 {
@@ -32,13 +17,14 @@ fn coordinate(n: u64) -> i32 {
 }
 
 // The settings that a row tells, behind a length and a grid.
-fn told(row: &[u64; ROW_LEN]) -> Settings {
+fn told(row: &Row) -> Settings {
+    let [_, _, edge, kind, x, y, z, ..] = row.numbers;
     Settings {
-        edge: byte(row[2]),
-        kind: byte(row[3]),
-        x: coordinate(row[4]),
-        y: coordinate(row[5]),
-        z: coordinate(row[6]),
+        edge: byte(edge),
+        kind: byte(kind),
+        x: coordinate(x),
+        y: coordinate(y),
+        z: coordinate(z),
     }
 }
 
@@ -52,8 +38,8 @@ fn read<W: Write>(out: &mut W, s: &[u8], n: usize, grid: u64) -> io::Result<()> 
 
 // A byte is put at a place.
 fn put(s: &mut [u8], at: usize, b: u8) {
-    if at < s.len() {
-        s[at] = b;
+    if let Some(byte) = s.get_mut(at) {
+        *byte = b;
     }
 }
 
@@ -63,36 +49,30 @@ fn old(s: &mut [u8], at: usize, grid: u64, edge: u8, kind: u8) {
     if s.len() < n + 12 {
         return;
     }
-    put(s, n, b'Y');
-    put(s, n + 1, b'1');
+    s[n..n + 2].copy_from_slice(b"Y1");
     little_endian::put_number(s, n + 2, 8, grid);
-    put(s, n + 10, edge);
-    put(s, n + 11, kind);
+    s[n + 10] = edge;
+    s[n + 11] = kind;
 }
 
 // What a row says is done.
-pub fn call<W: Write>(
-    out: &mut W,
-    s: &mut [u8],
-    t: &mut [u64],
-    row: &[u64; ROW_LEN],
-) -> io::Result<()> {
-    let key = row[WORDS];
-    let n = place(row[0]);
-    match key {
-        READ => read(out, s, n, row[1]),
-        WRITE => shown::writing(out, settings::write(s, n, row[1], told(row))),
-        KEEP => shown::keeping(out, settings::keep_last(s, n, t)),
-        PUT => {
-            put(s, n, byte(row[1]));
+pub fn call<W: Write>(out: &mut W, s: &mut [u8], t: &mut [u64], row: &Row) -> io::Result<()> {
+    let [first, second, third, fourth, ..] = row.numbers;
+    let n = first as usize;
+    match row.words[0] {
+        Word::Read => read(out, s, n, second),
+        Word::Write => shown::writing(out, settings::write(s, n, second, told(row))),
+        Word::Keep => shown::keeping(out, settings::keep_last(s, n, t)),
+        Word::Put => {
+            put(s, n, byte(second));
             Ok(())
         }
-        OLD => {
-            old(s, n, row[1], byte(row[2]), byte(row[3]));
+        Word::Old => {
+            old(s, n, second, byte(third), byte(fourth));
             Ok(())
         }
-        SHOW_BYTES => shown::bytes(out, s),
-        SHOW_WORDS => shown::words(out, t),
+        Word::Bytes => shown::bytes(out, s),
+        Word::Words => shown::words(out, t),
         _ => shown::no_such_row(out),
     }
 }

@@ -5,7 +5,7 @@ mod calls;
 mod playing;
 mod shown;
 
-use case_rows::reading::read_full;
+use script_reader::read_full;
 use std::io;
 
 fn main(rt: HostRuntime) -> io::Result<()> {

@@ -1,7 +1,7 @@
 // The rows of a text are played, one after the other.
 use crate::{calls, shown};
-use case_rows::reading::{ROW_LEN, WORDS, after_line, line_end, read_row, row_end};
-use case_rows::words::place;
+use case_rows::keys::Word;
+use case_rows::reading::{Row, row_of};
 use std::io;
 use std::io::Write;
 
@@ -9,107 +9,74 @@ const MOST_BYTES: usize = 80;
 
 const MOST_WORDS: usize = 12;
 
-// The words of the rows that lend, each letter a byte of a number.
-const SLICE: u64 = 0x736c696365;
+// The bytes and the words that a call may have, and how many of each are lent.
+#[derive(Drop)]
+struct Lent {
+    bytes: [u8; MOST_BYTES],
+    byte_count: usize,
+    words: [u64; MOST_WORDS],
+    word_count: usize,
+}
 
-const SCRATCH: u64 = 0x73637261746368;
+impl Lent {
+    // At first nothing is lent.
+    fn new() -> Lent {
+        Lent {
+            bytes: [0; MOST_BYTES],
+            byte_count: 0,
+            words: [0; MOST_WORDS],
+            word_count: 0,
+        }
+    }
 
-// Every byte becomes the same.
-fn fill_bytes(s: &mut [u8; MOST_BYTES], b: u8) {
-    let mut i = 0;
-    while i < MOST_BYTES {
-        s[i] = b;
-        i += 1;
+    // What a row says is done: it lends, or it calls on what is lent.
+    fn do_row<W: Write>(&mut self, out: &mut W, row: &Row) -> io::Result<()> {
+        let [n, v, ..] = row.numbers;
+        match row.words[0] {
+            Word::Slice => {
+                self.byte_count = n as usize;
+                self.bytes.fill(calls::byte(v));
+                Ok(())
+            }
+            Word::Scratch => {
+                self.word_count = n as usize;
+                self.words.fill(v);
+                Ok(())
+            }
+            _ => self.call(out, row),
+        }
+    }
+
+    // More bytes or words than there are cannot be lent. The call has copies, since two fields behind a reference cannot be lent at once.
+    fn call<W: Write>(&mut self, out: &mut W, row: &Row) -> io::Result<()> {
+        let byte_count = self.byte_count;
+        let word_count = self.word_count;
+        if byte_count > MOST_BYTES || word_count > MOST_WORDS {
+            return shown::no_such_row(out);
+        }
+        let mut bytes = self.bytes;
+        let mut words = self.words;
+        let done = calls::call(out, &mut bytes[..byte_count], &mut words[..word_count], row);
+        self.bytes = bytes;
+        self.words = words;
+        done
+    }
+
+    // A line is played; one with nothing but a note says nothing.
+    fn play_line<W: Write>(&mut self, out: &mut W, line: &[u8]) -> io::Result<()> {
+        let row = row_of(line);
+        if row.is_empty() {
+            return Ok(());
+        }
+        self.do_row(out, &Row::read(row))
     }
 }
 
-// Every word becomes the same.
-fn fill_words(t: &mut [u64; MOST_WORDS], w: u64) {
-    let mut i = 0;
-    while i < MOST_WORDS {
-        t[i] = w;
-        i += 1;
-    }
-}
-
-// A row that says how many bytes or words are lent from there on; whether it was one.
-fn lend(
-    s: &mut [u8; MOST_BYTES],
-    t: &mut [u64; MOST_WORDS],
-    lent: &mut [usize; 2],
-    row: &[u64; ROW_LEN],
-) -> bool {
-    let key = row[WORDS];
-    let n = place(row[0]);
-    if key == SLICE {
-        lent[0] = n;
-        fill_bytes(s, calls::byte(row[1]));
-        return true;
-    }
-    if key == SCRATCH {
-        lent[1] = n;
-        fill_words(t, row[1]);
-        return true;
-    }
-    false
-}
-
-// What a row says is done on the first n bytes and the first m words.
-fn call_on<W: Write>(
-    out: &mut W,
-    s: &mut [u8],
-    n: usize,
-    t: &mut [u64],
-    m: usize,
-    row: &[u64; ROW_LEN],
-) -> io::Result<()> {
-    if n > s.len() || m > t.len() {
-        return shown::no_such_row(out);
-    }
-    calls::call(out, &mut s[0..n], &mut t[0..m], row)
-}
-
-// A line is played; one with nothing but a note says nothing.
-fn turn<W: Write>(
-    out: &mut W,
-    s: &mut [u8; MOST_BYTES],
-    t: &mut [u64; MOST_WORDS],
-    lent: &mut [usize; 2],
-    line: &[u8],
-) -> io::Result<()> {
-    let end = row_end(line);
-    if end == 0 {
-        return Ok(());
-    }
-    let mut row = [0u64; ROW_LEN];
-    read_row(&line[0..end], &mut row);
-    if lend(s, t, lent, &row) {
-        return Ok(());
-    }
-    call_on(out, s, lent[0], t, lent[1], &row)
-}
-
-// All lines of a text are played.
-fn play_lines<W: Write>(
-    out: &mut W,
-    s: &mut [u8; MOST_BYTES],
-    t: &mut [u64; MOST_WORDS],
-    lent: &mut [usize; 2],
-    text: &[u8],
-) -> io::Result<()> {
-    let mut at = 0;
-    while at < text.len() {
-        let end = line_end(text, at);
-        turn(out, s, t, lent, &text[at..end])?;
-        at = after_line(text, at, end);
+// A text is played, line by line.
+pub fn play<W: Write>(out: &mut W, text: &[u8]) -> io::Result<()> {
+    let mut lent = Lent::new();
+    for line in text.split_inclusive(|b| *b == b'\n') {
+        lent.play_line(out, line.strip_suffix(b"\n").unwrap_or(line))?;
     }
     Ok(())
-}
-
-// A text is played; at first nothing is lent.
-pub fn play<W: Write>(out: &mut W, text: &[u8]) -> io::Result<()> {
-    let mut s = [0u8; MOST_BYTES];
-    let mut t = [0u64; MOST_WORDS];
-    let mut lent = [0usize; 2];
-    play_lines(out, &mut s, &mut t, &mut lent, text)
 }

@@ -1,10 +1,11 @@
 -- What a move leaves of the words of a table: the rows that stay, and zeros behind them.
-use Prim.Native.Nat.{ℕ, zero, suc, ◌+◌, ◌-◌, ◌*◌, ◌≤◌}
+use Prim.Native.Nat.{ℕ, suc, ◌+◌, ◌-◌, ◌*◌, ◌≤◌}
 use native.Mathlib.Omega.{arith}
 use mathlib.Core.Path.{◌≡◌, sym, ap, ◌∙◌}
 use mathlib.Core.List.{List, ◌∷◌, ◌++◌, append_assoc}
 use lib.ListN.{length, take, drop, replicate, length-append, length-drop, take-append-drop, replicate-append-replicate}
 use lib.Seq.{slice, length-slice, drop-drop, length-take-le, drop-append-le}
+use Rattle.std.proofs.lemmas.List.{drop-replicate}
 use Rattle.model.specs.Lists.{gather}
 use Rattle.model.proofs.Laws.Members.{gather_append}
 use Rattle.table.specs.Moves.{over, inserted, closed}
@@ -19,11 +20,6 @@ rejoin : (s : List ℕ) (a b : ℕ) → a ≤ b → b ≤ length s → drop a s 
 rejoin s a b p q =
     let e : length (take b s) ≡ b = length-take-le b s q in
     ap (λ (r : List ℕ). drop a r) (sym (take-append-drop b s)) ∙ drop-append-le a (take b s) (drop b s) (omega arith)
-
-drop-zeros : (k m : ℕ) → drop k (replicate m 0) ≡ replicate {A = ℕ} (m - k) 0
-drop-zeros zero m = let e : m ≡ m - 0 = omega arith in ap (λ (j : ℕ). replicate j 0) e
-drop-zeros (suc k) zero = let e : 0 ≡ 0 - suc k = omega arith in ap (λ (j : ℕ). replicate j 0) e
-drop-zeros (suc k) (suc m) = let e : m - k ≡ suc m - suc k = omega arith in drop-zeros k m ∙ ap (λ (j : ℕ). replicate j 0) e
 
 join-zeros : (a b c : ℕ) → a + b ≡ c → replicate a 0 ++ replicate b 0 ≡ replicate {A = ℕ} c 0
 join-zeros a b c e = replicate-append-replicate a b 0 ∙ ap (λ (j : ℕ). replicate j 0) e
@@ -46,7 +42,7 @@ module _ (s : List ℕ) (e : ℕ) (fits : e ≤ length s) (zeros : drop e s ≡ 
       ap (λ (j : ℕ). drop (e + j) s) p
       ∙ sym (drop-drop w e s)
       ∙ ap (λ (r : List ℕ). drop w r) zeros
-      ∙ drop-zeros w (length s - e)
+      ∙ drop-replicate w (length s - e) 0
       ∙ ap (λ (j : ℕ). replicate j 0) b in
       ap (λ (r : List ℕ). take a s ++ (row ++ (slice a e s ++ r))) z
       ∙ regroup (take a s) row (slice a e s) (replicate (length s - (e + w)) 0)

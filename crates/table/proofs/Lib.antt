@@ -1,5 +1,5 @@
 pub mod Moving
 pub mod Searching
-pub mod CellRows
+pub mod KeyRows
 pub mod After
 pub mod Ways

@@ -1,10 +1,8 @@
 -- Tables in a list of words: rows of one width, one after the other, and how a row is read as a key with what it stands for.
-use Rattle.std.specs.Prelude.{ℕ, zero, suc, ◌+◌, ◌-◌, ◌*◌, Bool, true, false, cond, ◌&&◌, ◌||◌, List, [], ◌∷◌, ◌++◌, length, take, drop, get_or, replicate, eqb, ltb, leb}
+use Rattle.std.specs.Prelude.{ℕ, zero, suc, ◌+◌, ◌-◌, ◌*◌, Bool, cond, ◌&&◌, ◌||◌, List, [], ◌∷◌, ◌++◌, length, take, drop, get_or, replicate, eqb, ltb, leb, Result, Ok, Err, is_ok}
 use Rattle.model.specs.Lists.{all, has, is_ascending, each, gather, keys}
 use Rattle.component.specs.Order.{same, below}
 use Rattle.component.specs.declared.Cell.{Cell}
-use Rattle.table.specs.declared.Place.{Place}
-use Rattle.table.specs.declared.Place.TheVariants.{Found, Missing}
 
 -- A kind of key: how many words it has, how it is read from a row and written, its equality and its order.
 pub record Kind (K : Type 0) : Type 0 where
@@ -75,19 +73,18 @@ module _ {K : Type 0} (kind : Kind K) where
   has_room_of w n s k = leb (w * suc n) (length s) || has kind.equal (keys (table_of w n s)) k
 
 -- A place one row further on.
-abbrev pub further : Place → Place
-further (Found i) = Found (suc i)
-further (Missing i) = Missing (suc i)
+abbrev pub further : Result ℕ ℕ → Result ℕ ℕ
+further (Ok i) = Ok (suc i)
+further (Err i) = Err (suc i)
 
 -- Whether a place is that of a row.
-abbrev pub is_found : Place → Bool
-is_found (Found i) = true
-is_found (Missing i) = false
+abbrev pub is_found : Result ℕ ℕ → Bool
+is_found = is_ok
 
 -- The number of a place.
-abbrev pub placed : Place → ℕ
-placed (Found i) = i
-placed (Missing i) = i
+abbrev pub placed : Result ℕ ℕ → ℕ
+placed (Ok i) = i
+placed (Err i) = i
 
 -- How many keys stand before the first that is not below a key.
 abbrev pub rank : {K : Type 0} → (K → K → Bool) → K → List K → ℕ
@@ -95,9 +92,9 @@ rank lt key [] = zero
 rank lt key (x ∷ l) = cond (lt x key) (suc (rank lt key l)) zero
 
 -- Where a key stands in an ascending list of keys, or where it would go in.
-abbrev pub place_of : {K : Type 0} → (K → K → Bool) → List K → K → Place
-place_of lt [] k = Missing zero
-place_of lt (a ∷ l) k = cond (lt k a) (Missing zero) (cond (lt a k) (further (place_of lt l k)) (Found zero))
+abbrev pub place_of : {K : Type 0} → (K → K → Bool) → List K → K → Result ℕ ℕ
+place_of lt [] k = Err zero
+place_of lt (a ∷ l) k = cond (lt k a) (Err zero) (cond (lt a k) (further (place_of lt l k)) (Ok zero))
 
 -- The key of one word of a row.
 abbrev pub key1 : List ℕ → ℕ

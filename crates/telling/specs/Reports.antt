@@ -1,14 +1,11 @@
 -- What the exported function of reports tells: document 02's number, the event's words, and floats by their bits.
-use Rattle.std.specs.Prelude.{ℕ, cond, List, [], ◌∷◌, ◌++◌, eqb, Float}
+use Rattle.std.specs.Prelude.{ℕ, cond, List, [], ◌∷◌, ◌++◌, eqb, Float, Option, None, Some}
 use Rattle.std.specs.Float.{binary64}
 use Rattle.std.specs.Float.Ieee.{ne, to_bits}
 use Rattle.metres.specs.declared.Frame.{Frame}
 use Rattle.metres.specs.declared.Report.{Report}
 use Rattle.metres.specs.declared.Report.TheVariants.{Fix, Reckoned, Nothing}
-use Rattle.metres.specs.declared.Margin.{Margin}
-use Rattle.metres.specs.declared.Margin.TheVariants.{Unsaid, Within}
-use Rattle.metres.specs.declared.Answer.{Answer}
-use Rattle.metres.specs.declared.Answer.TheVariants.{Event, NoEvent, Refused}
+use Rattle.metres.specs.Answer.{Answer, Event, NoEvent, Refused}
 use Rattle.metres.specs.Numbers.{number_of}
 use Rattle.moves.specs.Words.{move_words}
 use Rattle.telling.specs.Words.{place_words}
@@ -18,13 +15,13 @@ unfoldable pub bits_of : Float → ℕ
 bits_of x = cond (ne x x) 0x7ff8_0000_0000_0000 (to_bits binary64 x)
 
 -- Whether a margin is said, and it; 0 where none is.
-abbrev pub said_word : Margin → ℕ
-said_word Unsaid = 0
-said_word (Within err) = 1
+abbrev pub said_word : Option Float → ℕ
+said_word None = 0
+said_word (Some err) = 1
 
-abbrev pub error_word : Margin → ℕ
-error_word Unsaid = 0
-error_word (Within err) = bits_of err
+abbrev pub error_word : Option Float → ℕ
+error_word None = 0
+error_word (Some err) = bits_of err
 
 -- The frame of an origin and an edge.
 abbrev pub frame_of : Float → Float → Float → Float → Frame

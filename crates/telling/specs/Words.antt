@@ -5,7 +5,7 @@ use Rattle.std.proofs.Math.Option.{Option, none, some}
 use Rattle.component.specs.declared.CellCoord.{CellCoord}
 use Rattle.component.specs.declared.CellId.{CellId}
 use Rattle.component.specs.Stored.{biased, signed_word}
-use Rattle.refusal.specs.declared.Refusal.{Refusal}
+use Rattle.refusal.specs.Forms.{Refused}
 use Rattle.told.specs.Told.{Beside, values, needed, place, Told}
 use Rattle.lookups.specs.declared.Shown.{Shown}
 use Rattle.floods.specs.declared.Visited.{Visited}
@@ -37,7 +37,7 @@ abbrev pub numbered : {B : Type 0} → (B → List ℕ) → Told B → ℕ × Li
 numbered words t = (t.number, beside_words words t.beside)
 
 -- The number of a refusal, and its place; all 0 where nothing is refused.
-abbrev pub refusal_told : Refusal → ℕ × List ℕ
+abbrev pub refusal_told : Refused → ℕ × List ℕ
 refusal_told r = (r.number, place_words r.at r.axis)
 
 -- What touching means: 1, as every state has a kind, and it.

@@ -4,16 +4,17 @@
 mod reports;
 
 ghost use Rattle.std.specs.Prelude.{◌≡◌, List, ℕ, ◌≤◌, length};
-ghost use Rattle.lookups.specs.Told.{kind_told, where_told, id_told, count_told, group_told};
+ghost use Rattle.refusal.specs.Forms.{form, outcome};
+ghost use Rattle.told.specs.Told.{told_of, found_told};
 ghost use Rattle.lists.specs.Told.{listing_told};
 ghost use Rattle.floods.specs.Told.{flooding_told};
 ghost use Rattle.telling.specs.Given.{cell_of, depth_given};
 ghost use Rattle.telling.specs.Words.{axis_word, bit, place_words, numbered, refusal_told, kind_words, where_words, number_words, group_words, listing_words, flooding_words, fronted, telling};
 
 use component::{CellCoord, CellId};
-use floods::{Depth, Flooding};
-use lists::Listing;
-use lookups::{CountOf, GroupOf, IdOf, KindOf, Where};
+use floods::Flooded;
+use lists::Listed;
+use lookups::Shown;
 use refusal::Refusal;
 pub use reports::{report_given, tell_event};
 
@@ -28,13 +29,10 @@ pub fn cell(grid: u64, x: i32, y: i32, z: i32) -> CellId
 }
 
 // How far a flood goes: to a depth if one is given.
-pub fn depth_given(deep: bool, depth: i32) -> Depth
+pub fn depth_given(deep: bool, depth: i32) -> Option<i32>
     ensures { result ≡ depth_given deep depth }
 {
-    if deep {
-        return Depth::AtMost(depth);
-    }
-    Depth::Whole
+    deep.then_some(depth)
 }
 
 // A coordinate as an answer has it: a word of two's complement.
@@ -42,13 +40,6 @@ fn word(n: i32) -> u64
     ensures { result ≡ axis_word n }
 {
     component::signed_word(component::bias(n))
-}
-
-// 1 for yes and 0 for no.
-fn as_word(b: bool) -> u64
-    ensures { result ≡ bit b }
-{
-    if b { 1 } else { 0 }
 }
 
 // The words stand at the front of told.
@@ -59,151 +50,136 @@ fn tell(told: &mut [u64], words: &[u64])
     table::write_row(told, 0, words);
 }
 
-// What is told of a refusal, and of a call that gives no more than whether it is refused; the answer is its number.
+// What is told of a refusal; the answer is its number.
 pub fn tell_refusal(told: &mut [u64], r: Refusal) -> u64
     requires { 3 ≤ length told.old }
-    ensures { ◌≡◌ {A = ℕ × List ℕ} (result, told.new) (telling (refusal_told r) told.old) }
+    ensures { ◌≡◌ {A = ℕ × List ℕ} (result, told.new) (telling (refusal_told (form r)) told.old) }
 {
-    let words = [0, r.at, r.axis];
+    let words = [0, r.at(), r.axis()];
     tell(told, &words);
-    r.number
+    r.number()
 }
 
-// What is told of a list that is too long: the words needed; the answer is its number.
-fn tell_needed(told: &mut [u64], k: usize) -> u64
+// What is told of a call that gives no more than whether it is refused; the answer is its number.
+pub fn tell_outcome(told: &mut [u64], a: Result<(), Refusal>) -> u64
     requires { 3 ≤ length told.old }
-    ensures { ◌≡◌ {A = ℕ × List ℕ} (result, told.new) (telling (8, place_words k 0) told.old) }
+    ensures { ◌≡◌ {A = ℕ × List ℕ} (result, told.new) (telling (refusal_told (outcome a)) told.old) }
 {
-    let words = [0, k as u64, 0];
-    tell(told, &words);
-    8
+    match a {
+        Ok(()) => {
+            let words = [0u64; 3];
+            tell(told, &words);
+            0
+        }
+        Err(r) => tell_refusal(told, r),
+    }
 }
 
 // What is told of what touching means; the answer is its number.
-pub fn tell_kind(told: &mut [u64], a: KindOf) -> u64
+pub fn tell_kind(told: &mut [u64], a: Result<u64, Refusal>) -> u64
     requires { 3 ≤ length told.old }
-    ensures { ◌≡◌ {A = ℕ × List ℕ} (result, told.new) (telling (numbered kind_words (kind_told a)) told.old) }
+    ensures { ◌≡◌ {A = ℕ × List ℕ} (result, told.new) (telling (numbered kind_words (told_of a)) told.old) }
 {
     match a {
-        KindOf::Is(kind) => {
+        Ok(kind) => {
             let words = [1, kind];
             tell(told, &words);
             0
         }
-        KindOf::Refused(r) => tell_refusal(told, r),
+        Err(r) => tell_refusal(told, r),
     }
 }
 
 // What is told of where an entity stands; the answer is its number.
-pub fn tell_where(told: &mut [u64], a: Where) -> u64
+pub fn tell_where(told: &mut [u64], a: Result<Option<CellId>, Refusal>) -> u64
     requires { 5 ≤ length told.old }
-    ensures { ◌≡◌ {A = ℕ × List ℕ} (result, told.new) (telling (numbered where_words (where_told a)) told.old) }
+    ensures { ◌≡◌ {A = ℕ × List ℕ} (result, told.new) (telling (numbered where_words (found_told a)) told.old) }
 {
     match a {
-        Where::Found(c) => {
+        Ok(Some(c)) => {
             let p = c.coord;
             let words = [1, c.grid, word(p.x), word(p.y), word(p.z)];
             tell(told, &words);
             0
         }
-        Where::NotFound => {
+        Ok(None) => {
             let words = [0u64; 5];
             tell(told, &words);
             0
         }
-        Where::Refused(r) => tell_refusal(told, r),
+        Err(r) => tell_refusal(told, r),
     }
 }
 
 // What is told of a cell's id; the answer is its number.
-pub fn tell_id(told: &mut [u64], a: IdOf) -> u64
+pub fn tell_id(told: &mut [u64], a: Result<Option<u64>, Refusal>) -> u64
     requires { 3 ≤ length told.old }
-    ensures { ◌≡◌ {A = ℕ × List ℕ} (result, told.new) (telling (numbered number_words (id_told a)) told.old) }
+    ensures { ◌≡◌ {A = ℕ × List ℕ} (result, told.new) (telling (numbered number_words (found_told a)) told.old) }
 {
     match a {
-        IdOf::Found(g) => {
+        Ok(Some(g)) => {
             let words = [1, g];
             tell(told, &words);
             0
         }
-        IdOf::NotFound => {
+        Ok(None) => {
             let words = [0u64; 2];
             tell(told, &words);
             0
         }
-        IdOf::Refused(r) => tell_refusal(told, r),
+        Err(r) => tell_refusal(told, r),
     }
 }
 
 // What is told of a cell's neighbour count; the answer is its number.
-pub fn tell_count(told: &mut [u64], a: CountOf) -> u64
+pub fn tell_count(told: &mut [u64], a: Result<Option<u32>, Refusal>) -> u64
     requires { 3 ≤ length told.old }
-    ensures { ◌≡◌ {A = ℕ × List ℕ} (result, told.new) (telling (numbered number_words (count_told a)) told.old) }
+    ensures { ◌≡◌ {A = ℕ × List ℕ} (result, told.new) (telling (numbered number_words (found_told a)) told.old) }
 {
     match a {
-        CountOf::Found(k) => {
-            let words = [1, k as u64];
-            tell(told, &words);
-            0
-        }
-        CountOf::NotFound => {
-            let words = [0u64; 2];
-            tell(told, &words);
-            0
-        }
-        CountOf::Refused(r) => tell_refusal(told, r),
+        Ok(found) => tell_id(told, Ok(found.map(u64::from))),
+        Err(r) => tell_refusal(told, r),
     }
 }
 
 // What is told of a list; the answer is its number.
-pub fn tell_listing(told: &mut [u64], a: Listing) -> u64
+pub fn tell_listing(told: &mut [u64], a: Result<Listed, Refusal>) -> u64
     requires { 3 ≤ length told.old }
     ensures { ◌≡◌ {A = ℕ × List ℕ} (result, told.new) (telling (numbered listing_words (listing_told a)) told.old) }
 {
     match a {
-        Listing::Found(k) => {
-            let words = [1, k as u64];
+        Ok(l) => {
+            let words = [u64::from(l.found), l.count as u64];
             tell(told, &words);
             0
         }
-        Listing::NotFound(k) => {
-            let words = [0, k as u64];
-            tell(told, &words);
-            0
-        }
-        Listing::TooLong(k) => tell_needed(told, k),
-        Listing::Refused(r) => tell_refusal(told, r),
+        Err(r) => tell_refusal(told, r),
     }
 }
 
 // What is told of a flood; the answer is its number.
-pub fn tell_flooding(told: &mut [u64], a: Flooding) -> u64
+pub fn tell_flooding(told: &mut [u64], a: Result<Flooded, Refusal>) -> u64
     requires { 3 ≤ length told.old }
     ensures { ◌≡◌ {A = ℕ × List ℕ} (result, told.new) (telling (numbered flooding_words (flooding_told a)) told.old) }
 {
     match a {
-        Flooding::Found(v) => {
-            let words = [1, v.number as u64, as_word(v.was_all)];
+        Ok(f) => {
+            let v = f.visited;
+            let words = [u64::from(f.found), v.number as u64, u64::from(v.was_all)];
             tell(told, &words);
             0
         }
-        Flooding::NotFound(v) => {
-            let words = [0, v.number as u64, as_word(v.was_all)];
-            tell(told, &words);
-            0
-        }
-        Flooding::TooLong(k) => tell_needed(told, k),
-        Flooding::Refused(r) => tell_refusal(told, r),
+        Err(r) => tell_refusal(told, r),
     }
 }
 
 // What is told of a group; the answer is its number.
-pub fn tell_group(told: &mut [u64], a: GroupOf) -> u64
+pub fn tell_group(told: &mut [u64], a: Result<Option<Shown>, Refusal>) -> u64
     requires { 10 ≤ length told.old }
-    ensures { ◌≡◌ {A = ℕ × List ℕ} (result, told.new) (telling (numbered group_words (group_told a)) told.old) }
+    ensures { ◌≡◌ {A = ℕ × List ℕ} (result, told.new) (telling (numbered group_words (found_told a)) told.old) }
 {
     match a {
-        GroupOf::Found(s) => {
+        Ok(Some(s)) => {
             let low = s.low;
             let high = s.high;
             let words = [
@@ -221,11 +197,11 @@ pub fn tell_group(told: &mut [u64], a: GroupOf) -> u64
             tell(told, &words);
             0
         }
-        GroupOf::NotFound => {
+        Ok(None) => {
             let words = [0u64; 10];
             tell(told, &words);
             0
         }
-        GroupOf::Refused(r) => tell_refusal(told, r),
+        Err(r) => tell_refusal(told, r),
     }
 }

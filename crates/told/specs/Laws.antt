@@ -2,3 +2,4 @@ pub mod Ways
 pub mod Fitting
 pub mod Numbers
 pub mod One
+pub mod Back

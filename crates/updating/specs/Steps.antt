@@ -9,6 +9,7 @@ use Rattle.layout.specs.Widths.{header_len, spare, entity_width, cell_width, net
 use Rattle.layout.specs.Rows.{entities_image, cells_image, ids_image}
 use Rattle.layout.specs.State.{decode}
 use Rattle.map.specs.declared.Counts.{Counts}
+use Rattle.map.specs.declared.Tables.{Tables}
 use Rattle.map.specs.Held.{crowd_of}
 use Rattle.partition.specs.Held.{HeldCells}
 use Rattle.batch_events.specs.Playing.{Ready}
@@ -67,11 +68,19 @@ pub record CanRegroup (kind : ℕ) (w ids counts groups occ : List ℕ) (p : ℕ
   pub counted : Counted counts entities (keys (regroup (touch_at kind) o e (decode w).groups).ids)
   pub few-entities : length entities ≤ most_entities
 
+-- The same with the kind and the net lists of the tables.
+abbrev pub CanRegroupIn : Tables → List ℕ → List ℕ → List ℕ → List ℕ → List Cell → List Cell → List (ℕ × Cell) → Type 0
+CanRegroupIn t w ids counts groups o e entities = CanRegroup t.kind w ids counts groups t.occupied.now t.counts.occupied t.emptied.now t.counts.emptied o e entities
+
 -- The events of the batch b, which is accepted, are played, and the state of words w is still to be written.
 pub record Finishes (w ents cells crowd occ emp : List ℕ) (n : Counts) (b : Batch) : Type 0 where
   pub known : Known w
   pub accepted : (update (decode w) b).0 ≡ 0
   pub ready : Ready (decode w).kind ents cells crowd occ emp n (occupied (decode w).occupancy) (play_batch (touch_of (decode w)) b (decode w).occupancy)
+
+-- They are played in the tables.
+abbrev pub FinishesIn : List ℕ → Tables → Batch → Type 0
+FinishesIn w t b = Finishes w t.entities.now t.cells.now t.crowd.now t.occupied.now t.emptied.now t.counts b
 
 -- The words of a header: how many rows each table has, the next id, what touching means, zeros.
 abbrev pub head_words : Counts → Made → ℕ → List ℕ

@@ -2,6 +2,7 @@
 #![tactic(auto)]
 
 ghost use Rattle.std.specs.Prelude.{◌≡◌, List, ◌++◌, ℕ, ◌+◌, ◌*◌, ◌≤◌, length, take, drop};
+ghost use Rattle.refusal.specs.Forms.{outcome};
 ghost use Rattle.model.specs.Lists.{values};
 ghost use Rattle.model.specs.Cells.{Cell, touch_at};
 ghost use Rattle.model.specs.Occupancy.{Batch};
@@ -12,9 +13,9 @@ ghost use Rattle.layout.specs.Rows.{ids_in};
 ghost use Rattle.layout.specs.State.{entities_len, cells_len, net_len, state_len, encode, decode, next_id, kind_of};
 ghost use Rattle.batch.specs.Words.{batch_of, early};
 ghost use Rattle.regrouping.specs.Regrouping.{Regrouped};
-ghost use Rattle.updating.specs.Done.{done};
+ghost use Rattle.updating.specs.Done.{done, plainly};
 ghost use Rattle.updating.specs.Known.{Known};
-ghost use Rattle.updating.specs.Steps.{Blank, Opened, CanRegroup, Finishes, head_words};
+ghost use Rattle.updating.specs.Steps.{Blank, Opened, CanRegroupIn, FinishesIn, head_words};
 
 use batch_events::play_batch;
 use layout::{
@@ -23,7 +24,8 @@ use layout::{
     MOST_CELLS, NET_LEN, NET_WIDTH, NEXT_ID, OCCUPIED_COUNT, cell_words, count_at, entity_words,
     id_words,
 };
-use map::{Counts, crowd_of};
+use map::{Counts, Tables, crowd_of};
+use refusal::Refusal;
 use regrouping::{Made, regroup_and_record};
 use table::write_row;
 use writing::{write_back, write_front};
@@ -50,31 +52,39 @@ fn counts_of(crowd: &[u64], n: usize, counts: &mut [u64])
     requires { (crowd_width * n ≤ length crowd.now) × (n ≤ length counts.old) }
     ensures { take n counts.new ≡ values (ids_in n crowd.now) }
 {
-    let mut i = 0;
-    while i < n {
+    for i in 0..n {
         counts[i] = crowd[CROWD_WIDTH * i + CROWD_COUNT];
-        i += 1;
     }
 }
 
 // The cells with an id are copied out and regrouped at the kind of touching, and the group records are built, with the entities counted in each cell.
 fn regroup_state(
     state: &[u64],
-    kind: u64,
-    ids: &mut [u64],
+    tables: &Tables<'_>,
     counts: &[u64],
+    ids: &mut [u64],
     groups: &mut [u64],
-    occ: &[u64],
-    p: usize,
-    emp: &[u64],
-    m: usize,
 ) -> Made
-    requires { (o : List Cell) × (e : List Cell) × (entities : List (ℕ × Cell)) × CanRegroup kind state.now ids.old counts.now groups.old occ.now p emp.now m o e entities }
-    ensures { (o e : List Cell) (entities : List (ℕ × Cell)) → CanRegroup kind state.now ids.old counts.now groups.old occ.now p emp.now m o e entities → Regrouped ids.new groups.new result (regroup (touch_at kind) o e (decode state.now).groups) entities }
+    requires { (o : List Cell) × (e : List Cell) × (entities : List (ℕ × Cell)) × CanRegroupIn tables.now state.now ids.old counts.now groups.old o e entities }
+    ensures { (o e : List Cell) (entities : List (ℕ × Cell)) → CanRegroupIn tables.now state.now ids.old counts.now groups.old o e entities → Regrouped ids.new groups.new result (regroup (touch_at tables.now.kind) o e (decode state.now).groups) entities }
 {
     write_row(ids, 0, id_words(state));
     let n = count_at(state, ID_COUNT);
-    regroup_and_record(ids, n, kind, state[NEXT_ID], counts, groups, occ, p, emp, m)
+    let next = state[NEXT_ID];
+    let opened = tables.counts.occupied;
+    let closed = tables.counts.emptied;
+    regroup_and_record(
+        ids,
+        n,
+        tables.kind,
+        next,
+        counts,
+        groups,
+        tables.occupied,
+        opened,
+        tables.emptied,
+        closed,
+    )
 }
 
 // The header of a state with these counts and this kind of touching.
@@ -94,51 +104,55 @@ fn header(n: Counts, g: Made, kind: u64) -> [u64; HEADER_LEN]
 }
 
 // After the events of an accepted batch: the groups are regrouped, and the whole state is written.
-fn finish(
-    state: &mut [u64],
-    ents: &[u64],
-    cells: &[u64],
-    crowd: &[u64],
-    occ: &[u64],
-    emp: &[u64],
-    n: Counts,
-    kind: u64,
-)
-    requires { (b : Batch) × Finishes state.old ents.now cells.now crowd.now occ.now emp.now n b × (entities_len ≤ length ents.now) × (cells_len ≤ length cells.now) × (net_len ≤ length occ.now) × (net_len ≤ length emp.now) × (kind ≡ kind_of state.old) }
-    ensures { (b : Batch) → Finishes state.old ents.now cells.now crowd.now occ.now emp.now n b → state.new ≡ encode (accepted (decode state.old) b) ++ drop state_len state.old }
+fn finish(state: &mut [u64], tables: &Tables<'_>)
+    requires { (b : Batch) × FinishesIn state.old tables.now b × (entities_len ≤ length tables.now.entities.now) × (cells_len ≤ length tables.now.cells.now) × (net_len ≤ length tables.now.occupied.now) × (net_len ≤ length tables.now.emptied.now) × (tables.now.kind ≡ kind_of state.old) }
+    ensures { (b : Batch) → FinishesIn state.old tables.now b → state.new ≡ encode (accepted (decode state.old) b) ++ drop state_len state.old }
 {
+    let n = tables.counts;
     let mut counts = [0u64; MOST_CELLS];
-    counts_of(crowd, n.cells, &mut counts);
+    counts_of(tables.crowd, n.cells, &mut counts);
     let mut ids = [0u64; IDS_LEN + IDS_LEN];
     let mut groups = [0u64; GROUPS_LEN];
-    let p = n.occupied;
-    let m = n.emptied;
-    let g = regroup_state(state, kind, &mut ids, &counts, &mut groups, occ, p, emp, m);
-    let head = header(n, g, kind);
-    write_front(state, &head, ents, cells, occ, emp);
+    let g = regroup_state(state, tables, &counts, &mut ids, &mut groups);
+    let head = header(n, g, tables.kind);
+    write_front(
+        state,
+        &head,
+        tables.entities,
+        tables.cells,
+        tables.occupied,
+        tables.emptied,
+    );
     write_back(state, &ids, &groups);
 }
 
 // The batch is played in memory of its own; where no event breaks a limit, the state is written.
-pub fn apply_batch(state: &mut [u64], batch: &[u64], removals: usize, moves: usize) -> u64
+pub fn apply_batch(
+    state: &mut [u64],
+    batch: &[u64],
+    removals: usize,
+    moves: usize,
+) -> Result<(), Refusal>
     requires { Known state.old × (removals + move_width * moves ≤ length batch.now) × (early (next_id state.old) (batch_of batch.now removals moves) ≡ 0) }
-    ensures { (result, state.new) ≡ done state.old (update (decode state.old) (batch_of batch.now removals moves)) }
+    ensures { (outcome result, state.new) ≡ plainly (done state.old (update (decode state.old) (batch_of batch.now removals moves))) }
 {
-    let kind = state[KIND];
-    let mut ents = [0u64; ENTITIES_LEN + ENTITY_WIDTH];
+    let mut entities = [0u64; ENTITIES_LEN + ENTITY_WIDTH];
     let mut cells = [0u64; CELLS_LEN + CELL_WIDTH];
     let mut crowd = [0u64; CROWD_WIDTH * MOST_CELLS + CROWD_WIDTH];
-    let mut occ = [0u64; NET_LEN + NET_WIDTH];
-    let mut emp = [0u64; NET_LEN + NET_WIDTH];
-    let n = open_map(state, &mut ents, &mut cells, &mut crowd);
-    let p = play_batch(
-        &mut ents, &mut cells, &mut crowd, &mut occ, &mut emp, batch, n, kind, removals, moves,
-    );
-    let broken = p.number;
-    if broken != 0 {
-        return broken;
-    }
-    let c = p.counts;
-    finish(state, &ents, &cells, &crowd, &occ, &emp, c, kind);
-    0
+    let mut occupied = [0u64; NET_LEN + NET_WIDTH];
+    let mut emptied = [0u64; NET_LEN + NET_WIDTH];
+    let counts = open_map(state, &mut entities, &mut cells, &mut crowd);
+    let kind = state[KIND];
+    let mut tables = Tables {
+        entities: &mut entities,
+        cells: &mut cells,
+        crowd: &mut crowd,
+        occupied: &mut occupied,
+        emptied: &mut emptied,
+        counts,
+        kind,
+    };
+    play_batch(&mut tables, batch, removals, moves)?;
+    finish(state, &tables);
+    Ok(())
 }

@@ -22,6 +22,7 @@ fn store(state: &mut [u64], at: usize, src: &[u64], len: usize)
 }
 
 // The header, the map and both net lists are written.
+// Each part is an argument, as an update has each in an array of its own in fixed memory.
 pub fn write_front(
     state: &mut [u64],
     head: &[u64],

@@ -2,6 +2,7 @@
 #![tactic(auto)]
 
 ghost use Rattle.std.specs.Prelude.{◌≡◌};
+ghost use Rattle.refusal.specs.Forms.{outcome};
 ghost use Rattle.yard.specs.Update.{update_of};
 
 use batch::{early_refusal, too_short};
@@ -11,23 +12,17 @@ use layout::NEXT_ID;
 use refusal::Refusal;
 use updating::apply_batch;
 
-// A batch of removals, one word each, and moves, five words each, updates the state; the answer is the first refusal that holds, with
-// its place, which leaves the state as found, or none.
-pub fn update(state: &mut [u64], batch: &[u64], removals: u64, moves: u64) -> Refusal
-    ensures { (result, state.new) ≡ update_of state.old batch.now removals moves }
+// A batch of removals, one word each, and moves, five words each, updates the state; the first refusal that holds, with its place, leaves
+// the state as found.
+pub fn update(state: &mut [u64], batch: &[u64], removals: u64, moves: u64) -> Result<(), Refusal>
+    ensures { (outcome result, state.new) ≡ update_of state.old batch.now removals moves }
 {
     if too_short(state, batch, removals, moves) {
-        return refusal::too_short();
+        return Err(Refusal::TooShort);
     }
-    let unsound = consistent(state);
-    if unsound.number != 0 {
-        return unsound;
-    }
+    consistent(state)?;
     let r = removals as usize;
     let m = moves as usize;
-    let first = early_refusal(state[NEXT_ID], batch, r, m);
-    if first.number != 0 {
-        return first;
-    }
-    refusal::plain(apply_batch(state, batch, r, m))
+    early_refusal(state[NEXT_ID], batch, r, m)?;
+    apply_batch(state, batch, r, m)
 }

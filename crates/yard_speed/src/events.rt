@@ -5,46 +5,12 @@
 ghost use Rattle.std.specs.Prelude.{◌≤◌};
 
 // Where an entity goes.
-#[derive(Clone, Copy)]
+#[derive(Clone, Copy, Debug, PartialEq, Eq)]
 pub struct Move {
     pub entity: u64,
     pub x: u64,
     pub y: u64,
     pub z: u64,
-}
-
-// How many cells a block has.
-fn block(is_full: bool) -> u64
-    ensures { (31 ≤ result) × (result ≤ 511) }
-{
-    if is_full { 511 } else { 31 }
-}
-
-// The first walker; the second comes behind it, as the last of the entities.
-pub fn walker(is_full: bool) -> u64
-    ensures { result ≤ 4094 }
-{
-    8 * block(is_full) + 6
-}
-
-// An entity goes to cell k of the two blocks, or that much above it.
-fn to_block(entity: u64, k: u64, is_full: bool, above: u64) -> Move {
-    let n = block(is_full);
-    if k < n {
-        return Move {
-            entity,
-            x: k % 8,
-            y: k / 8 % 8,
-            z: k / 64 % 8 + above % 64,
-        };
-    }
-    let i = k - n;
-    Move {
-        entity,
-        x: 9 + i % 8,
-        y: i / 8 % 8,
-        z: i / 64 % 8 + above % 64,
-    }
 }
 
 // An entity goes to a cell of the row that runs through the free column.
@@ -57,51 +23,91 @@ fn to_row(entity: u64, x: u64) -> Move {
     }
 }
 
-// Where an entity stands at first: the walkers far from the blocks.
-pub fn home(entity: u64, is_full: bool) -> Move {
-    let w = walker(is_full);
-    if entity == w {
-        return to_row(entity, 100);
-    }
-    if entity > w {
-        return to_row(entity, 200);
-    }
-    if entity + 6 >= w {
-        return to_block(entity, 0, is_full, 0);
-    }
-    to_block(entity, entity / 4, is_full, 0)
+#[derive(Clone, Copy, Debug, PartialEq, Eq)]
+pub enum Size {
+    Small,
+    Full,
 }
 
-// The first walker goes between the blocks, which joins them, in an odd batch, and far away, which parts them, in an even one.
-pub fn walk(j: u64, is_full: bool) -> Move {
-    let w = walker(is_full);
-    if j % 2 == 1 {
-        return to_row(w, 8);
+impl Size {
+    // How many cells a block has.
+    fn block(self) -> u64
+        ensures { (31 ≤ result) × (result ≤ 511) }
+    {
+        match self {
+            Size::Small => 31,
+            Size::Full => 511,
+        }
     }
-    to_row(w, 100)
-}
 
-// Event i of those that carry cells of the blocks, entity by entity, above them and back.
-fn carry(i: u64, j: u64, is_full: bool) -> Move {
-    if is_full {
-        return to_block(4 + i % 1020, 1 + i % 1020 / 4, true, 32 * (j % 2));
+    // The first walker; the second comes behind it, as the last of the entities.
+    pub fn walker(self) -> u64
+        ensures { result ≤ 4094 }
+    {
+        8 * self.block() + 6
     }
-    to_block(
-        4 + i % 244,
-        1 + i % 244 / 4,
-        false,
-        32 * ((j % 2 + i / 244 % 8) % 2),
-    )
-}
 
-// Event i of a batch of 1,024. The first walker makes room for a cell, cells are carried, and both walkers go elsewhere.
-pub fn event(i: u64, j: u64, is_full: bool) -> Move {
-    let w = walker(is_full);
-    match i {
-        0 => to_block(w, 0, is_full, 0),
-        1021 => walk(j, is_full),
-        1022 => to_row(w + 1, 300),
-        1023 => to_row(w + 1, 200 + 2 * (j % 2)),
-        _ => carry(std::num::wrapping_sub_u64(i, 1), j, is_full),
+    // An entity goes to cell k of the two blocks, or that much above it.
+    fn to_block(self, entity: u64, k: u64, above: u64) -> Move {
+        let n = self.block();
+        if k < n {
+            return Move {
+                entity,
+                x: k % 8,
+                y: k / 8 % 8,
+                z: k / 64 % 8 + above % 64,
+            };
+        }
+        let i = k - n;
+        Move {
+            entity,
+            x: 9 + i % 8,
+            y: i / 8 % 8,
+            z: i / 64 % 8 + above % 64,
+        }
+    }
+
+    // Where an entity stands at first: the walkers far from the blocks.
+    pub fn home(self, entity: u64) -> Move {
+        let w = self.walker();
+        if entity == w {
+            return to_row(entity, 100);
+        }
+        if entity > w {
+            return to_row(entity, 200);
+        }
+        if entity + 6 >= w {
+            return self.to_block(entity, 0, 0);
+        }
+        self.to_block(entity, entity / 4, 0)
+    }
+
+    // The first walker goes between the blocks, which joins them, in an odd batch, and far away, which parts them, in an even one.
+    pub fn walk(self, j: u64) -> Move {
+        to_row(self.walker(), if j % 2 == 1 { 8 } else { 100 })
+    }
+
+    // Event i of those that carry cells of the blocks, entity by entity, above them and back.
+    fn carry(self, i: u64, j: u64) -> Move {
+        match self {
+            Size::Full => self.to_block(4 + i % 1020, 1 + i % 1020 / 4, 32 * (j % 2)),
+            Size::Small => self.to_block(
+                4 + i % 244,
+                1 + i % 244 / 4,
+                32 * ((j % 2 + i / 244 % 8) % 2),
+            ),
+        }
+    }
+
+    // Event i of a batch of 1,024. The first walker makes room for a cell, cells are carried, and both walkers go elsewhere.
+    pub fn event(self, i: u64, j: u64) -> Move {
+        let w = self.walker();
+        match i {
+            0 => self.to_block(w, 0, 0),
+            1021 => self.walk(j),
+            1022 => to_row(w + 1, 300),
+            1023 => to_row(w + 1, 200 + 2 * (j % 2)),
+            _ => self.carry(i.wrapping_sub(1), j),
+        }
     }
 }

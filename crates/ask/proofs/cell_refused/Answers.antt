@@ -1,27 +1,14 @@
--- The state is refused, or the cell, or neither.
-use mathlib.Core.Path.{◌∙◌}
-use Rattle.ask.specs.Laws.Ways.{state-way, inside-way, outside-way}
+-- The state is refused, or the test of the cell's range follows.
+use Rattle.consistent.specs.Answer.{state_refusal}
+use Rattle.ask.specs.Answers.{cell_refusal}
+use Rattle.ask.specs.Laws.Ways.{ranged, test-ends, answered-by}
 use Rattle.ask.proofs.cell_refused.Goals as goal
+use mathlib.Core.Path.{◌∙◌}
 
-pub returns-then-no-ne0 : goal.returns-then-no-ne0
-returns-then-no-ne0 c =
-    let s = c in
-    state-way s.args.state.now s.args.cell c.consistent-no.result c.consistent-no.ensures c.if-no-ne0.true
-
-pub returns-then-in_range : goal.returns-then-in_range
-returns-then-in_range c =
-    let t = c in
-    let a = t in
-    let k = a in
-    let s = k in
-    c.none.ensures
-    ∙ inside-way s.args.state.now s.args.cell k.consistent-no.result k.consistent-no.ensures a.if-no-ne0.false t.in_range.result t.in_range.ensures c.if-in_range.true
+pub returns-in_err-consistent : goal.returns-in_err-consistent
+unfolding cell_refusal
+returns-in_err-consistent c = test-ends (state_refusal c.args.state.now) _ c.in_err-consistent.ensures (ranged 0 c.args.cell) c.from_residual.result c.from_residual.ensures.1
 
 pub returns : goal.returns
-returns c =
-    let t = c in
-    let a = t in
-    let k = a in
-    let s = k in
-    c.out_of_range.ensures
-    ∙ outside-way s.args.state.now s.args.cell k.consistent-no.result k.consistent-no.ensures a.if-no-ne0.false t.in_range.result t.in_range.ensures c.if-in_range.false c.bad_axis.result c.bad_axis.ensures
+unfolding cell_refusal
+returns c = c.in_range.ensures ∙ answered-by (state_refusal c.args.state.now) (λ k. k) (ranged 0 c.args.cell) c.in_ok-consistent.ensures

@@ -1,27 +1,13 @@
--- The state or the first cell is refused, or the second cell, or none.
+-- The state or the first cell is refused, or the test of the second cell's range follows.
 use mathlib.Core.Path.{◌∙◌}
-use Rattle.ask.specs.Laws.Ways.{first_way, second-inside, second-outside}
+use Rattle.ask.specs.Answers.{cell_refusal, cells_refusal}
+use Rattle.ask.specs.Laws.Ways.{ranged, test-ends, answered-by}
 use Rattle.ask.proofs.cells_refused.Goals as goal
 
-pub returns-then-no-ne0 : goal.returns-then-no-ne0
-returns-then-no-ne0 c =
-    let s = c in
-    first_way s.args.state.now s.args.from s.args.to c.cell_refused-no.result c.cell_refused-no.ensures c.if-no-ne0.true
-
-pub returns-then-in_range : goal.returns-then-in_range
-returns-then-in_range c =
-    let t = c in
-    let a = t in
-    let k = a in
-    let s = k in
-    c.none.ensures
-    ∙ second-inside s.args.state.now s.args.from s.args.to k.cell_refused-no.result k.cell_refused-no.ensures a.if-no-ne0.false t.in_range.result t.in_range.ensures c.if-in_range.true
+pub returns-in_err-cell_refused : goal.returns-in_err-cell_refused
+unfolding cells_refusal
+returns-in_err-cell_refused c = test-ends (cell_refusal c.args.state.now c.args.from) _ c.in_err-cell_refused.ensures (ranged 1 c.args.to) c.from_residual.result c.from_residual.ensures.1
 
 pub returns : goal.returns
-returns c =
-    let t = c in
-    let a = t in
-    let k = a in
-    let s = k in
-    c.out_of_range.ensures
-    ∙ second-outside s.args.state.now s.args.from s.args.to k.cell_refused-no.result k.cell_refused-no.ensures a.if-no-ne0.false t.in_range.result t.in_range.ensures c.if-in_range.false c.bad_axis.result c.bad_axis.ensures
+unfolding cells_refusal
+returns c = c.in_range.ensures ∙ answered-by (cell_refusal c.args.state.now c.args.from) (λ k. k) (ranged 1 c.args.to) c.in_ok-cell_refused.ensures

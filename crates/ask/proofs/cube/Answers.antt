@@ -1,53 +1,30 @@
--- The refusals in order, then the rows of the occupied cells.
--- The words are those of a consistent state, and the cell is in range.
-use native.Mathlib.Omega.{arith}
-use mathlib.Core.Bool.{true}
-use mathlib.Core.Path.{◌≡◌, ◌∙◌, ap}
-use Rattle.layout.specs.State.{decode}
-use Rattle.lists.specs.Told.{listing_told}
+-- The refusals in order, then the rows of the occupied cells; the cell is in range.
+use mathlib.Core.Path.{ap, ◌∙◌}
 use Rattle.component.specs.Stored.{stored}
 use Rattle.component.specs.Range.{cell_in_range}
-use Rattle.ask.specs.Laws.Listings.{cube-refused, cube-answered}
-use Rattle.ask.specs.Laws.Words.{cells-here, cells-few}
-use Rattle.ask.specs.Laws.Ways.{Sure, range-by}
+use Rattle.model.specs.Questions.{cube}
+use Rattle.layout.specs.State.{decode}
+use Rattle.lists.specs.Told.{listed_cells}
+use Rattle.ask.specs.Answers.{cell_refusal, cube_of}
+use Rattle.ask.specs.Laws.Listings.{cube-answered}
+use Rattle.ask.specs.Laws.Ways.{listing-ends, cell-not8, range-by}
 use Rattle.ask.proofs.cube.Goals as goal
-use Rattle.ask.proofs.cube.Lts as lts
-use Rattle.ask.proofs.cube.Tie as tie
-use Rattle.ask.proofs.cube.Reads as reads
 
-sure : (a : lts.Else1 tie.the-claims reads.Pre reads.Post) → Sure a.args.state.now
-sure a = let s = a in (range-by s.args.state.now s.args.cell a.cell_refused-no.result a.cell_refused-no.ensures a.if-no-ne0.false).0
+pub returns-in_err-cell_refused : goal.returns-in_err-cell_refused
+unfolding cube_of
+returns-in_err-cell_refused c =
+    let w = c.args.state.now in
+    listing-ends (cell_refusal w c.args.cell) _ c.in_err-cell_refused.ensures (cell-not8 w c.args.cell) c.args.answer.now (listed_cells (cube (decode w) (stored c.args.cell) c.args.radius) c.args.answer.now) c.from_residual.result c.from_residual.ensures.1
 
-ranged : (a : lts.Else1 tie.the-claims reads.Pre reads.Post) → cell_in_range (stored a.args.cell) ≡ true
-ranged a = let s = a in (range-by s.args.state.now s.args.cell a.cell_refused-no.result a.cell_refused-no.ensures a.if-no-ne0.false).1
-
-pub returns-then-no-ne0 : goal.returns-then-no-ne0
-returns-then-no-ne0 c =
-    let s = c in
-    cube-refused s.args.state.now s.args.cell s.args.answer.now c.cell_refused-no.result c.cell_refused-no.ensures s.args.radius c.if-no-ne0.true
-
-pub cell_words-rows-requires : goal.cell_words-rows-requires
-cell_words-rows-requires c = (sure c.before).long
-
-pub count_at-n-requires : goal.count_at-n-requires
-count_at-n-requires c = ((sure c.before.before).long, omega arith)
+pub cells-n-requires : goal.cells-n-requires
+cells-n-requires c = (range-by c.args.state.now c.args.cell c.in_ok-cell_refused.ensures).0
 
 pub give_cube-requires : goal.give_cube-requires
 give_cube-requires c =
-    let n = c in
-    let a = n.before.before.before.before.before in
-    let s = a in (
-      ((decode s.args.state.now).kind, cells-here n.count_at-n.result n.cell_words-rows.result.now s.args.state.now (sure a) n.count_at-n.ensures n.cell_words-rows.ensures),
-      ap cell_in_range c.stored.ensures ∙ ranged a,
-      omega (arith, cells-few s.args.state.now (sure a), n.count_at-n.ensures),
-    )
+    let t = c.cells-n.ensures in
+    (((decode c.args.state.now).kind, t.2), ap cell_in_range c.stored.ensures ∙ (range-by c.args.state.now c.args.cell c.in_ok-cell_refused.ensures).1, t.3)
 
 pub returns : goal.returns
 returns c =
-    let g = c in
-    let t = g in
-    let n = t in
-    let a = n in
-    let s = a in
-    cube-answered s.args.state.now s.args.cell s.args.answer.now a.cell_refused-no.result a.cell_refused-no.ensures s.args.radius a.if-no-ne0.false
-    n.count_at-n.result n.cell_words-rows.result.now t.stored.result (listing_told g.give_cube.result, g.give_cube.new.answer) n.count_at-n.ensures n.cell_words-rows.ensures t.stored.ensures g.give_cube.ensures
+    let t = c.cells-n in
+    cube-answered c.args.state.now c.args.cell c.args.answer.now c.in_ok-cell_refused.ensures c.args.radius t.result.1 t.result.0.now c.stored.result _ t.ensures.1 t.ensures.0 c.stored.ensures c.give_cube.ensures

@@ -1,45 +1,35 @@
 -- The refusals in order, then the rows of the entities.
--- The words are those of a consistent state, and the cell is in range.
 use native.Mathlib.Omega.{arith}
 use mathlib.Core.Path.{ap}
 use lib.ListN.{length}
-use Rattle.lists.specs.Told.{listing_told}
-use Rattle.ask.specs.Laws.Listings.{entities-refused, entities-answered}
+use Rattle.component.specs.Stored.{stored}
+use Rattle.model.specs.Questions.{entities_in}
+use Rattle.layout.specs.State.{decode}
+use Rattle.lists.specs.Told.{listed_numbers}
+use Rattle.ask.specs.Answers.{cell_refusal, entities_of}
+use Rattle.ask.specs.Laws.Listings.{entities-answered}
 use Rattle.ask.specs.Laws.Words.{entities-few}
-use Rattle.ask.specs.Laws.Ways.{Sure, range-by}
+use Rattle.ask.specs.Laws.Ways.{listing-ends, cell-not8, range-by}
 use Rattle.ask.proofs.entities_in.Goals as goal
-use Rattle.ask.proofs.entities_in.Lts as lts
-use Rattle.ask.proofs.entities_in.Tie as tie
-use Rattle.ask.proofs.entities_in.Reads as reads
 
-sure : (a : lts.Else1 tie.the-claims reads.Pre reads.Post) → Sure a.args.state.now
-sure a = let s = a in (range-by s.args.state.now s.args.cell a.cell_refused-no.result a.cell_refused-no.ensures a.if-no-ne0.false).0
-
-pub returns-then-no-ne0 : goal.returns-then-no-ne0
-returns-then-no-ne0 c =
-    let s = c in
-    entities-refused s.args.state.now s.args.cell s.args.answer.now c.cell_refused-no.result c.cell_refused-no.ensures c.if-no-ne0.true
+pub returns-in_err-cell_refused : goal.returns-in_err-cell_refused
+unfolding entities_of
+returns-in_err-cell_refused c =
+    let w = c.args.state.now in
+    listing-ends (cell_refusal w c.args.cell) _ c.in_err-cell_refused.ensures (cell-not8 w c.args.cell) c.args.answer.now (listed_numbers (entities_in (decode w) (stored c.args.cell)) c.args.answer.now) c.from_residual.result c.from_residual.ensures.1
 
 pub entity_words-rows-requires : goal.entity_words-rows-requires
-entity_words-rows-requires c = (sure c.before).long
+entity_words-rows-requires c = (range-by c.args.state.now c.args.cell c.in_ok-cell_refused.ensures).0.long
 
 pub count_at-n-requires : goal.count_at-n-requires
-count_at-n-requires c = ((sure c.before.before).long, omega arith)
+count_at-n-requires c = ((range-by c.args.state.now c.args.cell c.in_ok-cell_refused.ensures).0.long, omega arith)
 
 pub give_entities-requires : goal.give_entities-requires
 give_entities-requires c =
-    let n = c in
-    let a = n.before.before.before.before.before in
-    let s = a in
-    let f = entities-few s.args.state.now (sure a) in
-    (omega (arith, f.0, n.count_at-n.ensures, ap length n.entity_words-rows.ensures), omega (arith, f.1, n.count_at-n.ensures))
+    let f = entities-few c.args.state.now (range-by c.args.state.now c.args.cell c.in_ok-cell_refused.ensures).0 in
+    (omega (arith, f.0, c.count_at-n.ensures, ap length c.entity_words-rows.ensures), omega (arith, f.1, c.count_at-n.ensures))
 
 pub returns : goal.returns
 returns c =
-    let g = c in
-    let t = g in
-    let n = t in
-    let a = n.before.before.before.before.before.before.before.before in
-    let s = a in
-    entities-answered s.args.state.now s.args.cell s.args.answer.now a.cell_refused-no.result a.cell_refused-no.ensures a.if-no-ne0.false (sure a)
-    n.count_at-n.result n.entity_words-rows.result.now t.stored.result (listing_told g.give_entities.result, g.give_entities.new.answer) n.count_at-n.ensures n.entity_words-rows.ensures t.stored.ensures g.give_entities.ensures
+    entities-answered c.args.state.now c.args.cell c.args.answer.now c.in_ok-cell_refused.ensures (range-by c.args.state.now c.args.cell c.in_ok-cell_refused.ensures).0
+    c.count_at-n.result c.entity_words-rows.result.now c.stored.result _ c.count_at-n.ensures c.entity_words-rows.ensures c.stored.ensures c.give_entities.ensures

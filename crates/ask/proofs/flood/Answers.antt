@@ -1,45 +1,32 @@
 -- The refusals in order, then the rows of the occupied cells.
--- The words are those of a consistent state, and the cell is in range.
-use native.Mathlib.Omega.{arith}
+use Rattle.component.specs.Stored.{stored}
+use Rattle.model.specs.Lists.{has}
+use Rattle.model.specs.Cells.{same}
+use Rattle.model.specs.Occupancy.{occupied}
+use Rattle.model.specs.Questions.{flood_of as question}
 use Rattle.layout.specs.State.{decode}
-use Rattle.floods.specs.Told.{flooding_told}
-use Rattle.ask.specs.Laws.Listings.{flood-refused, flood-answered}
-use Rattle.ask.specs.Laws.Words.{cells-here, cells-few}
-use Rattle.ask.specs.Laws.Ways.{Sure, range-by}
+use Rattle.floods.specs.Told.{flooded, depth_of}
+use Rattle.ask.specs.Answers.{cell_refusal, flood_of}
+use Rattle.ask.specs.Laws.Listings.{flood-answered}
+use Rattle.ask.specs.Laws.Ways.{flooding-ends, cell-not8, range-by}
 use Rattle.ask.proofs.flood.Goals as goal
-use Rattle.ask.proofs.flood.Lts as lts
-use Rattle.ask.proofs.flood.Tie as tie
-use Rattle.ask.proofs.flood.Reads as reads
 
-sure : (a : lts.Else1 tie.the-claims reads.Pre reads.Post) → Sure a.args.state.now
-sure a = let s = a in (range-by s.args.state.now s.args.seed a.cell_refused-no.result a.cell_refused-no.ensures a.if-no-ne0.false).0
+pub returns-in_err-cell_refused : goal.returns-in_err-cell_refused
+unfolding flood_of
+returns-in_err-cell_refused c =
+    let w = c.args.state.now in
+    let a = c.args.answer.now in
+    flooding-ends (cell_refusal w c.args.seed) _ c.in_err-cell_refused.ensures (cell-not8 w c.args.seed) a
+    (flooded (has same (occupied (decode w).occupancy) (stored c.args.seed)) (question (decode w) (stored c.args.seed) (depth_of c.args.depth) c.args.budget) a) c.from_residual.result c.from_residual.ensures.1
 
-pub returns-then-no-ne0 : goal.returns-then-no-ne0
-returns-then-no-ne0 c =
-    let s = c in
-    flood-refused s.args.state.now s.args.seed s.args.answer.now c.cell_refused-no.result c.cell_refused-no.ensures s.args.depth s.args.budget c.if-no-ne0.true
-
-pub cell_words-rows-requires : goal.cell_words-rows-requires
-cell_words-rows-requires c = (sure c.before).long
-
-pub count_at-n-requires : goal.count_at-n-requires
-count_at-n-requires c = ((sure c.before.before).long, omega arith)
+pub cells-n-requires : goal.cells-n-requires
+cells-n-requires c = (range-by c.args.state.now c.args.seed c.in_ok-cell_refused.ensures).0
 
 pub give_flood-requires : goal.give_flood-requires
-give_flood-requires c =
-    let n = c in
-    let a = n.before.before.before.before.before in
-    let s = a in (
-      ((decode s.args.state.now).kind, cells-here n.count_at-n.result n.cell_words-rows.result.now s.args.state.now (sure a) n.count_at-n.ensures n.cell_words-rows.ensures),
-      omega (arith, cells-few s.args.state.now (sure a), n.count_at-n.ensures),
-    )
+give_flood-requires c = (((decode c.args.state.now).kind, c.cells-n.ensures.2), c.cells-n.ensures.3)
 
 pub returns : goal.returns
 returns c =
-    let g = c in
-    let t = g in
-    let n = t in
-    let a = n.before.before.before.before.before.before.before.before in
-    let s = a in
-    flood-answered s.args.state.now s.args.seed s.args.answer.now a.cell_refused-no.result a.cell_refused-no.ensures s.args.depth s.args.budget a.if-no-ne0.false
-    n.count_at-n.result n.cell_words-rows.result.now t.stored.result (flooding_told g.give_flood.result, g.give_flood.new.answer) n.count_at-n.ensures n.cell_words-rows.ensures t.stored.ensures (g.give_flood.ensures (decode s.args.state.now).kind (cells-here n.count_at-n.result n.cell_words-rows.result.now s.args.state.now (sure a) n.count_at-n.ensures n.cell_words-rows.ensures))
+    let t = c.cells-n in
+    flood-answered c.args.state.now c.args.seed c.args.answer.now c.in_ok-cell_refused.ensures c.args.depth c.args.budget
+    t.result.1 t.result.0.now c.stored.result _ t.ensures.1 t.ensures.0 c.stored.ensures (c.give_flood.ensures (decode c.args.state.now).kind t.ensures.2)

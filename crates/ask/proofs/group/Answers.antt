@@ -1,36 +1,33 @@
 -- The refusals in order, then the row of the group.
--- The words are those of a consistent state.
-use mathlib.Core.Path.{◌∙◌}
+use mathlib.Core.Path.{ap, ◌∙◌}
 use borrow.Author.Rules.{rules}
+use Rattle.model.specs.Questions.{group_by}
+use Rattle.layout.specs.State.{decode}
 use Rattle.layout.specs.Widths.{group_width}
 use Rattle.table.specs.Rows.{is_table1}
-use Rattle.lookups.specs.Told.{group_told}
-use Rattle.ask.specs.Laws.Lookups.{group-refused, group-answered}
+use Rattle.consistent.specs.Answer.{state_refusal}
+use Rattle.told.specs.Told.{done, seen}
+use Rattle.lookups.specs.Told.{shown_of}
+use Rattle.ask.specs.Answers.{group_of}
+use Rattle.ask.specs.Laws.Lookups.{group-answered}
 use Rattle.ask.specs.Laws.Words.{groups-table}
-use Rattle.ask.specs.Laws.Ways.{Sure, sure-by}
+use Rattle.ask.specs.Laws.Ways.{lookup-ends, state-not8, sure-by}
 use Rattle.ask.proofs.group.Goals as goal
-use Rattle.ask.proofs.group.Lts as lts
-use Rattle.ask.proofs.group.Tie as tie
-use Rattle.ask.proofs.group.Reads as reads
 
-sure : (a : lts.Else1 tie.the-claims reads.Pre reads.Post) → Sure a.args.state.now
-sure a = sure-by a.args.state.now a.consistent-no.result a.consistent-no.ensures a.if-no-ne0.false
-
-pub returns-then-no-ne0 : goal.returns-then-no-ne0
-returns-then-no-ne0 c = let s = c in group-refused s.args.state.now s.args.id c.consistent-no.result c.consistent-no.ensures c.if-no-ne0.true
+pub returns-in_err-consistent : goal.returns-in_err-consistent
+unfolding group_of
+returns-in_err-consistent c =
+    let w = c.args.state.now in
+    lookup-ends (state_refusal w) _ c.in_err-consistent.ensures (state-not8 w) (done (seen shown_of (group_by (decode w) c.args.id))) c.from_residual.result c.from_residual.ensures.1
 
 pub group_words-rows-requires : goal.group_words-rows-requires
-group_words-rows-requires c = (sure c.before).long
+group_words-rows-requires c = (sure-by c.args.state.now c.in_ok-consistent.ensures).long
 
 pub count_at-n-requires : goal.count_at-n-requires
-count_at-n-requires c = ((sure c.before.before).long, search rules)
+count_at-n-requires c = ((sure-by c.args.state.now c.in_ok-consistent.ensures).long, search rules)
 
 pub find_group-requires : goal.find_group-requires
-find_group-requires c = (λ i. is_table1 group_width (c.count_at-n.ensures i) (c.group_words-rows.ensures i)) ∙ groups-table _ (sure c.before.before.before)
+find_group-requires c = (λ i. is_table1 group_width (c.count_at-n.ensures i) (c.group_words-rows.ensures i)) ∙ groups-table _ (sure-by c.args.state.now c.in_ok-consistent.ensures)
 
 pub returns : goal.returns
-returns c =
-    let a = c in
-    let s = a in
-    group-answered s.args.state.now s.args.id a.consistent-no.result a.consistent-no.ensures a.if-no-ne0.false
-    c.count_at-n.result c.group_words-rows.result.now (group_told c.find_group.result) c.count_at-n.ensures c.group_words-rows.ensures c.find_group.ensures
+returns c = group-answered c.args.state.now c.args.id c.in_ok-consistent.ensures c.count_at-n.result c.group_words-rows.result.now _ c.count_at-n.ensures c.group_words-rows.ensures (ap done c.find_group.ensures)

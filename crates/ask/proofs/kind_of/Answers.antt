@@ -1,27 +1,22 @@
 -- The refusals in order, then the word of the header.
--- The words are those of a consistent state.
 use native.Mathlib.Omega.{arith}
 use mathlib.Core.Path.{refl}
-use Rattle.layout.specs.State.{kind_of}
+use Rattle.layout.specs.State.{decode}
+use Rattle.layout.specs.State as layout
 use Rattle.layout.proofs.Laws.Cut.{header-fits}
-use Rattle.ask.specs.Laws.Lookups.{kind-refused, kind-answered}
-use Rattle.ask.specs.Laws.Ways.{Sure, sure-by}
+use Rattle.consistent.specs.Answer.{state_refusal}
+use Rattle.told.specs.Told.{done}
+use Rattle.ask.specs.Answers.{kind_of}
+use Rattle.ask.specs.Laws.Lookups.{kind-answered}
+use Rattle.ask.specs.Laws.Ways.{kind-ends, state-not8, sure-by}
 use Rattle.ask.proofs.kind_of.Goals as goal
-use Rattle.ask.proofs.kind_of.Lts as lts
-use Rattle.ask.proofs.kind_of.Tie as tie
-use Rattle.ask.proofs.kind_of.Reads as reads
 
-sure : (a : lts.Else1 tie.the-claims reads.Pre reads.Post) → Sure a.args.state.now
-sure a = sure-by a.args.state.now a.consistent-no.result a.consistent-no.ensures a.if-no-ne0.false
-
-pub returns-then-no-ne0 : goal.returns-then-no-ne0
-returns-then-no-ne0 c = let s = c in kind-refused s.args.state.now c.consistent-no.result c.consistent-no.ensures c.if-no-ne0.true
+pub returns-in_err-consistent : goal.returns-in_err-consistent
+unfolding kind_of
+returns-in_err-consistent c = let w = c.args.state.now in kind-ends (state_refusal w) _ c.in_err-consistent.ensures (state-not8 w) (done (decode w).kind) c.from_residual.result c.from_residual.ensures.1
 
 pub bounds-state-7 : goal.bounds-state-7
-bounds-state-7 c = omega (arith, header-fits c.args.state.now (sure c.before.before).long)
+bounds-state-7 c = omega (arith, header-fits c.args.state.now (sure-by c.args.state.now c.in_ok-consistent.ensures).long)
 
 pub returns : goal.returns
-returns c =
-    let a = c in
-    let s = a in
-    kind-answered s.args.state.now a.consistent-no.result a.consistent-no.ensures a.if-no-ne0.false (kind_of s.args.state.now) refl
+returns c = kind-answered c.args.state.now c.in_ok-consistent.ensures (layout.kind_of c.args.state.now) refl

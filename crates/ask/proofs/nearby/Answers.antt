@@ -1,43 +1,27 @@
 -- The refusals in order, then the rows of the occupied cells.
--- The words are those of a consistent state, and the cell is in range.
-use native.Mathlib.Omega.{arith}
+use Rattle.component.specs.Stored.{stored}
+use Rattle.model.specs.Questions.{nearby}
 use Rattle.layout.specs.State.{decode}
-use Rattle.lists.specs.Told.{listing_told}
-use Rattle.ask.specs.Laws.Listings.{nearby-refused, nearby-answered}
-use Rattle.ask.specs.Laws.Words.{cells-here}
-use Rattle.ask.specs.Laws.Ways.{Sure, range-by}
+use Rattle.lists.specs.Told.{listed_cells}
+use Rattle.ask.specs.Answers.{cell_refusal, nearby_of}
+use Rattle.ask.specs.Laws.Listings.{nearby-answered}
+use Rattle.ask.specs.Laws.Ways.{listing-ends, cell-not8, range-by}
 use Rattle.ask.proofs.nearby.Goals as goal
-use Rattle.ask.proofs.nearby.Lts as lts
-use Rattle.ask.proofs.nearby.Tie as tie
-use Rattle.ask.proofs.nearby.Reads as reads
 
-sure : (a : lts.Else1 tie.the-claims reads.Pre reads.Post) → Sure a.args.state.now
-sure a = let s = a in (range-by s.args.state.now s.args.cell a.cell_refused-no.result a.cell_refused-no.ensures a.if-no-ne0.false).0
+pub returns-in_err-cell_refused : goal.returns-in_err-cell_refused
+unfolding nearby_of
+returns-in_err-cell_refused c =
+    let w = c.args.state.now in
+    listing-ends (cell_refusal w c.args.cell) _ c.in_err-cell_refused.ensures (cell-not8 w c.args.cell) c.args.answer.now (listed_cells (nearby (decode w) (stored c.args.cell)) c.args.answer.now) c.from_residual.result c.from_residual.ensures.1
 
-pub returns-then-no-ne0 : goal.returns-then-no-ne0
-returns-then-no-ne0 c =
-    let s = c in
-    nearby-refused s.args.state.now s.args.cell s.args.answer.now c.cell_refused-no.result c.cell_refused-no.ensures c.if-no-ne0.true
-
-pub cell_words-rows-requires : goal.cell_words-rows-requires
-cell_words-rows-requires c = (sure c.before).long
-
-pub count_at-n-requires : goal.count_at-n-requires
-count_at-n-requires c = ((sure c.before.before).long, omega arith)
+pub cells-n-requires : goal.cells-n-requires
+cells-n-requires c = (range-by c.args.state.now c.args.cell c.in_ok-cell_refused.ensures).0
 
 pub give_nearby-requires : goal.give_nearby-requires
-give_nearby-requires c =
-    let n = c in
-    let a = n.before.before.before.before.before in
-    let s = a in
-    ((decode s.args.state.now).kind, cells-here n.count_at-n.result n.cell_words-rows.result.now s.args.state.now (sure a) n.count_at-n.ensures n.cell_words-rows.ensures)
+give_nearby-requires c = ((decode c.args.state.now).kind, c.cells-n.ensures.2)
 
 pub returns : goal.returns
 returns c =
-    let g = c in
-    let t = g in
-    let n = t in
-    let a = n.before.before.before.before.before.before.before.before in
-    let s = a in
-    nearby-answered s.args.state.now s.args.cell s.args.answer.now a.cell_refused-no.result a.cell_refused-no.ensures a.if-no-ne0.false
-    n.count_at-n.result n.cell_words-rows.result.now t.stored.result (listing_told g.give_nearby.result, g.give_nearby.new.answer) n.count_at-n.ensures n.cell_words-rows.ensures t.stored.ensures (g.give_nearby.ensures (decode s.args.state.now).kind (cells-here n.count_at-n.result n.cell_words-rows.result.now s.args.state.now (sure a) n.count_at-n.ensures n.cell_words-rows.ensures))
+    let t = c.cells-n in
+    nearby-answered c.args.state.now c.args.cell c.args.answer.now c.in_ok-cell_refused.ensures t.result.1 t.result.0.now c.stored.result _ t.ensures.1 t.ensures.0 c.stored.ensures
+    (c.give_nearby.ensures (decode c.args.state.now).kind t.ensures.2)

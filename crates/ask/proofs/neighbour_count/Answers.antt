@@ -1,37 +1,28 @@
 -- The refusals in order, then the row of the cell.
--- The words are those of a consistent state.
-use borrow.Author.Rules.{rules}
+use mathlib.Core.Path.{ap}
+use Rattle.component.specs.Stored.{stored}
+use Rattle.model.specs.Questions.{neighbour_count}
+use Rattle.layout.specs.State.{decode}
 use Rattle.neighbourhood.proofs.Laws.Reads.{cells-table}
-use Rattle.lookups.specs.Told.{count_told}
-use Rattle.ask.specs.Laws.Lookups.{count-refused, count-answered}
-use Rattle.ask.specs.Laws.Words.{cells-here}
-use Rattle.ask.specs.Laws.Ways.{Sure, range-by}
+use Rattle.told.specs.Told.{done}
+use Rattle.ask.specs.Answers.{cell_refusal, count_of}
+use Rattle.ask.specs.Laws.Lookups.{count-answered}
+use Rattle.ask.specs.Laws.Ways.{lookup-ends, cell-not8, range-by}
 use Rattle.ask.proofs.neighbour_count.Goals as goal
-use Rattle.ask.proofs.neighbour_count.Lts as lts
-use Rattle.ask.proofs.neighbour_count.Tie as tie
-use Rattle.ask.proofs.neighbour_count.Reads as reads
 
-sure : (a : lts.Else1 tie.the-claims reads.Pre reads.Post) → Sure a.args.state.now
-sure a = let s = a in (range-by s.args.state.now s.args.cell a.cell_refused-no.result a.cell_refused-no.ensures a.if-no-ne0.false).0
+pub returns-in_err-cell_refused : goal.returns-in_err-cell_refused
+unfolding count_of
+returns-in_err-cell_refused c =
+    let w = c.args.state.now in
+    lookup-ends (cell_refusal w c.args.cell) _ c.in_err-cell_refused.ensures (cell-not8 w c.args.cell) (done (neighbour_count (decode w) (stored c.args.cell))) c.from_residual.result c.from_residual.ensures.1
 
-pub returns-then-no-ne0 : goal.returns-then-no-ne0
-returns-then-no-ne0 c = let s = c in count-refused s.args.state.now s.args.cell c.cell_refused-no.result c.cell_refused-no.ensures c.if-no-ne0.true
-
-pub cell_words-rows-requires : goal.cell_words-rows-requires
-cell_words-rows-requires c = (sure c.before).long
-
-pub count_at-n-requires : goal.count_at-n-requires
-count_at-n-requires c = ((sure c.before.before).long, search rules)
+pub cells-n-requires : goal.cells-n-requires
+cells-n-requires c = (range-by c.args.state.now c.args.cell c.in_ok-cell_refused.ensures).0
 
 pub find_count-requires : goal.find_count-requires
-find_count-requires c =
-    let n = c in
-    let a = n.before.before.before.before in
-    cells-table _ _ _ (cells-here n.count_at-n.result n.cell_words-rows.result.now a.args.state.now (sure a) n.count_at-n.ensures n.cell_words-rows.ensures)
+find_count-requires c = cells-table _ _ _ c.cells-n.ensures.2
 
 pub returns : goal.returns
 returns c =
-    let a = c in
-    let s = a in
-    count-answered s.args.state.now s.args.cell a.cell_refused-no.result a.cell_refused-no.ensures a.if-no-ne0.false
-    c.count_at-n.result c.cell_words-rows.result.now c.stored.result (count_told c.find_count.result) c.count_at-n.ensures c.cell_words-rows.ensures c.stored.ensures c.find_count.ensures
+    let t = c.cells-n in
+    count-answered c.args.state.now c.args.cell c.in_ok-cell_refused.ensures t.result.1 t.result.0.now c.stored.result _ t.ensures.1 t.ensures.0 c.stored.ensures (ap done c.find_count.ensures)

@@ -1,42 +1,32 @@
--- The refusals in order, then the rows of the newly occupied cells.
--- The words are those of a consistent state.
+-- The refusals in order, then the rows of the net list.
 use native.Mathlib.Omega.{arith}
 use mathlib.Core.Path.{ap}
 use lib.ListN.{length}
-use Rattle.lists.specs.Told.{listing_told}
-use Rattle.ask.specs.Laws.Listings.{occupied-refused, occupied-answered}
+use Rattle.lists.specs.Told.{listed_cells, there}
+use Rattle.layout.specs.State.{decode}
+use Rattle.consistent.specs.Answer.{state_refusal}
+use Rattle.ask.specs.Answers.{occupied_of}
+use Rattle.ask.specs.Laws.Listings.{occupied-answered}
 use Rattle.ask.specs.Laws.Words.{occupied-few}
-use Rattle.ask.specs.Laws.Ways.{Sure, sure-by}
+use Rattle.ask.specs.Laws.Ways.{listing-ends, state-not8, sure-by}
 use Rattle.ask.proofs.newly_occupied.Goals as goal
-use Rattle.ask.proofs.newly_occupied.Lts as lts
-use Rattle.ask.proofs.newly_occupied.Tie as tie
-use Rattle.ask.proofs.newly_occupied.Reads as reads
 
-sure : (a : lts.Else1 tie.the-claims reads.Pre reads.Post) → Sure a.args.state.now
-sure a = sure-by a.args.state.now a.consistent-no.result a.consistent-no.ensures a.if-no-ne0.false
-
-pub returns-then-no-ne0 : goal.returns-then-no-ne0
-returns-then-no-ne0 c =
-    let s = c in
-    occupied-refused s.args.state.now s.args.answer.now c.consistent-no.result c.consistent-no.ensures c.if-no-ne0.true
+pub returns-in_err-consistent : goal.returns-in_err-consistent
+unfolding occupied_of
+returns-in_err-consistent c =
+    let w = c.args.state.now in
+    listing-ends (state_refusal w) _ c.in_err-consistent.ensures (state-not8 w) c.args.answer.now (listed_cells (there (decode w).occupancy.newly_occupied) c.args.answer.now) c.from_residual.result c.from_residual.ensures.1
 
 pub occupied_words-rows-requires : goal.occupied_words-rows-requires
-occupied_words-rows-requires c = (sure c.before).long
+occupied_words-rows-requires c = (sure-by c.args.state.now c.in_ok-consistent.ensures).long
 
 pub count_at-n-requires : goal.count_at-n-requires
-count_at-n-requires c = ((sure c.before.before).long, omega arith)
+count_at-n-requires c = ((sure-by c.args.state.now c.in_ok-consistent.ensures).long, omega arith)
 
 pub give_net-requires : goal.give_net-requires
 give_net-requires c =
-    let a = c.before.before.before.before in
-    let f = occupied-few a.args.state.now (sure a) in
+    let f = occupied-few c.args.state.now (sure-by c.args.state.now c.in_ok-consistent.ensures) in
     (omega (arith, f.0, c.count_at-n.ensures, ap length c.occupied_words-rows.ensures), omega (arith, f.1, c.count_at-n.ensures))
 
 pub returns : goal.returns
-returns c =
-    let g = c in
-    let n = g in
-    let a = n in
-    let s = a in
-    occupied-answered s.args.state.now s.args.answer.now a.consistent-no.result a.consistent-no.ensures a.if-no-ne0.false
-    n.count_at-n.result n.occupied_words-rows.result.now (listing_told g.give_net.result, g.give_net.new.answer) n.count_at-n.ensures n.occupied_words-rows.ensures g.give_net.ensures
+returns c = occupied-answered c.args.state.now c.args.answer.now c.in_ok-consistent.ensures c.count_at-n.result c.occupied_words-rows.result.now _ c.count_at-n.ensures c.occupied_words-rows.ensures c.give_net.ensures

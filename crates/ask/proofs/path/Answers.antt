@@ -1,45 +1,29 @@
 -- The refusals in order, then the rows of the occupied cells.
--- The words are those of a consistent state.
-use native.Mathlib.Omega.{arith}
+use Rattle.component.specs.Stored.{stored}
+use Rattle.model.specs.Questions.{path_between}
 use Rattle.layout.specs.State.{decode}
-use Rattle.lists.specs.Told.{listing_told}
-use Rattle.ask.specs.Laws.Listings.{path-refused, path-answered}
-use Rattle.ask.specs.Laws.Words.{cells-here, cells-few}
-use Rattle.ask.specs.Laws.Ways.{Sure, both-sure}
+use Rattle.lists.specs.Told.{path_from}
+use Rattle.ask.specs.Answers.{cells_refusal, path_of}
+use Rattle.ask.specs.Laws.Listings.{path-answered}
+use Rattle.ask.specs.Laws.Ways.{listing-ends, cells-not8, both-sure}
 use Rattle.ask.proofs.path.Goals as goal
-use Rattle.ask.proofs.path.Lts as lts
-use Rattle.ask.proofs.path.Tie as tie
-use Rattle.ask.proofs.path.Reads as reads
 
-sure : (a : lts.Else1 tie.the-claims reads.Pre reads.Post) → Sure a.args.state.now
-sure a = let s = a in both-sure s.args.state.now s.args.from s.args.to a.cells_refused-no.result a.cells_refused-no.ensures a.if-no-ne0.false
+pub returns-in_err-cells_refused : goal.returns-in_err-cells_refused
+unfolding path_of
+returns-in_err-cells_refused c =
+    let w = c.args.state.now in
+    let a = c.args.from in
+    let b = c.args.to in
+    listing-ends (cells_refusal w a b) _ c.in_err-cells_refused.ensures (cells-not8 w a b) c.args.answer.now (path_from (path_between (decode w) (stored a) (stored b)) c.args.answer.now) c.from_residual.result c.from_residual.ensures.1
 
-pub returns-then-no-ne0 : goal.returns-then-no-ne0
-returns-then-no-ne0 c =
-    let s = c in
-    path-refused s.args.state.now s.args.from s.args.to s.args.answer.now c.cells_refused-no.result c.cells_refused-no.ensures c.if-no-ne0.true
-
-pub cell_words-rows-requires : goal.cell_words-rows-requires
-cell_words-rows-requires c = (sure c.before).long
-
-pub count_at-n-requires : goal.count_at-n-requires
-count_at-n-requires c = ((sure c.before.before).long, omega arith)
+pub cells-n-requires : goal.cells-n-requires
+cells-n-requires c = both-sure c.args.state.now c.args.from c.args.to c.in_ok-cells_refused.ensures
 
 pub give_path-requires : goal.give_path-requires
-give_path-requires c =
-    let n = c in
-    let a = n.before.before.before.before.before.before in
-    let s = a in (
-      ((decode s.args.state.now).kind, cells-here n.count_at-n.result n.cell_words-rows.result.now s.args.state.now (sure a) n.count_at-n.ensures n.cell_words-rows.ensures),
-      omega (arith, cells-few s.args.state.now (sure a), n.count_at-n.ensures),
-    )
+give_path-requires c = (((decode c.args.state.now).kind, c.cells-n.ensures.2), c.cells-n.ensures.3)
 
 pub returns : goal.returns
 returns c =
-    let g = c in
-    let t = g in
-    let n = t in
-    let a = n.before.before.before.before.before.before.before.before.before in
-    let s = a in
-    path-answered s.args.state.now s.args.from s.args.to s.args.answer.now a.cells_refused-no.result a.cells_refused-no.ensures a.if-no-ne0.false
-    n.count_at-n.result n.cell_words-rows.result.now t.stored.result t.stored-2.result (listing_told g.give_path.result, g.give_path.new.answer) n.count_at-n.ensures n.cell_words-rows.ensures t.stored.ensures t.stored-2.ensures (g.give_path.ensures (decode s.args.state.now).kind (cells-here n.count_at-n.result n.cell_words-rows.result.now s.args.state.now (sure a) n.count_at-n.ensures n.cell_words-rows.ensures))
+    let t = c.cells-n in
+    path-answered c.args.state.now c.args.from c.args.to c.args.answer.now c.in_ok-cells_refused.ensures t.result.1 t.result.0.now c.stored.result c.stored-2.result _ t.ensures.1 t.ensures.0 c.stored.ensures c.stored-2.ensures
+    (c.give_path.ensures (decode c.args.state.now).kind t.ensures.2)

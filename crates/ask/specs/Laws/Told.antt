@@ -5,7 +5,7 @@ use Rattle.std.proofs.Common.{sym, ◌∙◌, subst, eqb→eq}
 use Rattle.std.proofs.Math.Bool.{true, false}
 use Rattle.component.specs.declared.CellId.{CellId}
 use Rattle.component.specs.Coord.{bad_axis, coord_in_range}
-use Rattle.refusal.specs.declared.Refusal.{Refusal}
+use Rattle.refusal.specs.Forms.{Refused}
 use Rattle.refusal.specs.Forms.{none, too_short, broken, out_of_range}
 use Rattle.model.proofs.Laws.Tests.{T_true}
 use Rattle.layout.specs.Points.{long_enough, consistent_words, first_broken}
@@ -17,10 +17,10 @@ use Rattle.ask.specs.Answers.{cell_refusal}
 
 module _ (w : List ℕ) where
   -- The refusal by the tests of the state, and then by that of a cell.
-  abbrev pub by_state : Bool → Bool → Refusal
+  abbrev pub by_state : Bool → Bool → Refused
   by_state l g = cond (not l) too_short (cond g none (broken (first_broken w)))
 
-  abbrev pub by-cell : CellId → Bool → Bool → Bool → Refusal
+  abbrev pub by-cell : CellId → Bool → Bool → Bool → Refused
   by-cell c l g i = cond (eqb (by_state l g).number 0) (cond i none (out_of_range 0 (bad_axis c.coord))) (by_state l g)
 
   -- The number of a question to the state, whose answer may be longer than its slice.

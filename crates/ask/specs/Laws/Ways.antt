@@ -1,5 +1,5 @@
 -- The refusals, one after the other.
-use Rattle.std.specs.Prelude.{ℕ, ◌≡◌, Bool, cond, not, List, eqb}
+use Rattle.std.specs.Prelude.{ℕ, ◌≡◌, Result, Ok, Err, Bool, cond, not, List, eqb}
 use Rattle.std.proofs.Common.{arith, sym, ap, ◌∙◌, eqb→eq}
 use Rattle.std.proofs.Math.Path.{refl}
 use Rattle.std.proofs.Math.Bool.{true, false}
@@ -8,11 +8,20 @@ use Rattle.component.specs.Coord.{bad_axis, coord_in_range}
 use Rattle.component.specs.Stored.{stored}
 use Rattle.component.specs.Range.{cell_in_range}
 use Rattle.component.specs.Laws.Range.{range-of-stored}
+use Rattle.refusal.specs.Forms.{Refused}
 use Rattle.refusal.specs.declared.Refusal.{Refusal}
-use Rattle.refusal.specs.Forms.{none, too_short, broken, out_of_range}
+use Rattle.refusal.specs.Forms.{form, outcome, none, too_short, broken, out_of_range}
 use Rattle.model.proofs.Laws.Tests.{neqb→ne, T_true, T_false}
 use Rattle.layout.specs.Points.{long_enough, consistent_words, first_broken}
-use Rattle.told.specs.Laws.Ways.{refused-way, answered-way}
+use Rattle.std.specs.Result.{IsErrAnd}
+use Rattle.std.specs.Prelude.{Option as Found}
+use Rattle.std.proofs.Math.Option.{Option}
+use Rattle.told.specs.Told.{Told, too_long, refused, failed, told_of, found_told, unless, unless_refused}
+use Rattle.lists.specs.declared.Listed.{Listed}
+use Rattle.lists.specs.Told.{listing_told}
+use Rattle.floods.specs.declared.Visited.{Visited}
+use Rattle.floods.specs.declared.Flooded.{Flooded}
+use Rattle.floods.specs.Told.{flooding_told}
 use Rattle.consistent.specs.Answer.{state_refusal}
 use Rattle.ask.specs.Answers.{cell_refusal, cells_refusal}
 
@@ -32,82 +41,125 @@ module _ (w : List ℕ) where
       go true false p q e = absurd (omega arith)
       go false c p q e = absurd (omega arith)
 
-  -- The same of a refusal that is equal.
-  pub sure-by : (r : Refusal) → r ≡ state_refusal w → r.number ≡ 0 → Sure w
-  sure-by r e h = sure-of (sym (ap (λ (r : Refusal). r.number) e) ∙ h)
+  -- The same of words that are let pass.
+  pub sure-by : none ≡ state_refusal w → Sure w
+  sure-by e = sure-of (sym (ap (λ (r : Refused). r.number) e))
 
 -- What the test of a cell's range answers, by its position.
-abbrev ranged : ℕ → CellId → Bool → Refusal
-ranged at c b = cond b none (out_of_range at (bad_axis c.coord))
+abbrev ranged_by : ℕ → CellId → Bool → Refused
+ranged_by at c b = cond b none (out_of_range at (bad_axis c.coord))
 
--- After one refusal another is tried.
-module _ (at : ℕ) (c : CellId) (no r : Refusal) (e : no ≡ r) where
-  -- The first refuses.
-  first-refuses : (no.number ≡ 0 → ⊥) → no ≡ cond (eqb r.number 0) (ranged at c (coord_in_range c.coord)) r
-  first-refuses h = refused-way no r (λ x. x) (ranged at c (coord_in_range c.coord)) e h
+abbrev pub ranged : ℕ → CellId → Refused
+ranged at c = ranged_by at c (coord_in_range c.coord)
 
-  -- It does not, and the cell is in range.
-  then-inside : no.number ≡ 0 → (b : Bool) → b ≡ coord_in_range c.coord → b ≡ true → none ≡ cond (eqb r.number 0) (ranged at c (coord_in_range c.coord)) r
-  then-inside h b t y = answered-way no r (λ x. x) (ranged at c (coord_in_range c.coord)) e h none (sym (ap (ranged at c) (sym t ∙ y)))
+-- No refusal has the number 0.
+form-some : (r : Refusal) → eqb (form r).number 0 ≡ false
+form-some Refusal.TooShort = refl
+form-some (Refusal.Broken p) = refl
+form-some Refusal.TooManyEvents = refl
+form-some (Refusal.OutOfRange at axis) = refl
+form-some Refusal.FewIds = refl
+form-some Refusal.TooManyEntities = refl
+form-some Refusal.TooManyCells = refl
+form-some (Refusal.TooLong k) = refl
+form-some (Refusal.BadCoordinate axis) = refl
+form-some Refusal.BadError = refl
+form-some Refusal.BadEdge = refl
+form-some (Refusal.BadOrigin axis) = refl
+form-some Refusal.NoPath = refl
+form-some Refusal.UnknownKind = refl
 
-  -- It does not, and the cell is out of range.
-  then-outside : no.number ≡ 0 → (b : Bool) → b ≡ coord_in_range c.coord → b ≡ false → (axis : ℕ) → axis ≡ bad_axis c.coord
-      → out_of_range at axis ≡ cond (eqb r.number 0) (ranged at c (coord_in_range c.coord)) r
-  then-outside h b t y axis f =
-      answered-way no r (λ x. x) (ranged at c (coord_in_range c.coord)) e h (out_of_range at axis)
-      (ap (out_of_range at) f ∙ sym (ap (ranged at c) (sym t ∙ y)))
+module _ {A : Type 0} (s : Refused) (refuse : Refused → A) (answer : A) where
+  -- After a refusal nothing is answered.
+  pub refused-by : (r : Refusal) → form r ≡ s → refuse s ≡ unless s refuse answer
+  refused-by r e =
+      let h : eqb s.number 0 ≡ false = ap (λ (x : Refused). eqb x.number 0) (sym e) ∙ form-some r in
+      ap (λ (b : Bool). cond b answer (refuse s)) (sym h)
 
-module _ (w : List ℕ) (c : CellId) (no : Refusal) (e : no ≡ state_refusal w) where
-  -- The state is refused.
-  pub state-way : (no.number ≡ 0 → ⊥) → no ≡ cell_refusal w c
-  unfolding cell_refusal
-  state-way = first-refuses 0 c no (state_refusal w) e
+  -- With none it is.
+  pub answered-by : none ≡ s → answer ≡ unless s refuse answer
+  answered-by e = ap (λ (x : Refused). unless x refuse answer) e
 
-  -- The state is not, and the cell is in range.
-  pub inside-way : no.number ≡ 0 → (b : Bool) → b ≡ coord_in_range c.coord → b ≡ true → none ≡ cell_refusal w c
-  unfolding cell_refusal
-  inside-way = then-inside 0 c no (state_refusal w) e
+-- A refusal that is not 8 is told by its place.
+failed-place : {B : Type 0} (s : Refused) → eqb s.number 8 ≡ false → failed {B = B} s ≡ refused s
+failed-place {B} s h = ap (λ (b : Bool). cond {A = Told B} b (too_long s.at) (refused s)) h
 
-  -- The state is not, and the cell is out of range.
-  pub outside-way : no.number ≡ 0 → (b : Bool) → b ≡ coord_in_range c.coord → b ≡ false → (axis : ℕ) → axis ≡ bad_axis c.coord → out_of_range 0 axis ≡ cell_refusal w c
-  unfolding cell_refusal
-  outside-way = then-outside 0 c no (state_refusal w) e
+module _ (s : Refused) (r : Refusal) (e : form r ≡ s) where
+  -- A test that ends with the refusal of one that it stands on.
+  pub test-ends : (next : Refused) (q : Result (Unit {0}) Refusal) → IsErrAnd q (λ y. y ≡ r) → outcome q ≡ unless s (λ k. k) next
+  test-ends next (Ok u) f = absurd f
+  test-ends next (Err y) f = ap form f ∙ e ∙ refused-by s (λ k. k) next r e
+
+  module _ {B : Type 0} (h : eqb s.number 8 ≡ false) where
+    -- What is told of it.
+    told-place : (y : Refusal) → y ≡ r → failed {B = B} (form y) ≡ refused s
+    told-place y f = ap (λ (z : Refusal). failed {B = B} (form z)) f ∙ ap (failed {B = B}) e ∙ failed-place s h
+
+    -- A question that ends so.
+    pub kind-ends : (v : Told B) (q : Result B Refusal) → IsErrAnd q (λ y. y ≡ r) → told_of q ≡ unless s refused v
+    kind-ends v (Ok b) f = absurd f
+    kind-ends v (Err y) f = told-place y f ∙ refused-by s refused v r e
+
+    list-ends : (answer : List ℕ) (a : Told B × List ℕ) (y : Refusal) → y ≡ r → (failed {B = B} (form y), answer) ≡ unless_refused s answer a
+    list-ends answer a y f = (λ i. (told-place y f i, answer)) ∙ refused-by s (λ k. (refused {B = B} k, answer)) a r e
+
+  pub lookup-ends : {B : Type 0} → eqb s.number 8 ≡ false → (v : Told (Option B)) (q : Result (Found B) Refusal) → IsErrAnd q (λ y. y ≡ r) → found_told q ≡ unless s refused v
+  lookup-ends {B} h v (Ok b) f = absurd f
+  lookup-ends {B} h v (Err y) f = told-place {B = Option B} h y f ∙ refused-by s refused v r e
+
+  pub listing-ends : eqb s.number 8 ≡ false → (answer : List ℕ) (a : Told (Bool × ℕ) × List ℕ) (q : Result Listed Refusal) → IsErrAnd q (λ y. y ≡ r) → ◌≡◌ {A = Told (Bool × ℕ) × List ℕ} (listing_told q, answer) (unless_refused s answer a)
+  listing-ends h answer a (Ok b) f = absurd f
+  listing-ends h answer a (Err y) f = list-ends h answer a y f
+
+  pub flooding-ends : eqb s.number 8 ≡ false → (answer : List ℕ) (a : Told (Bool × Visited) × List ℕ) (q : Result Flooded Refusal) → IsErrAnd q (λ y. y ≡ r) → ◌≡◌ {A = Told (Bool × Visited) × List ℕ} (flooding_told q, answer) (unless_refused s answer a)
+  flooding-ends h answer a (Ok b) f = absurd f
+  flooding-ends h answer a (Err y) f = list-ends h answer a y f
 
 -- A cell that is not refused is in range, and its state is sure.
 range-of : (w : List ℕ) (c : CellId) → (cell_refusal w c).number ≡ 0 → Sure w × (cell_in_range (stored c) ≡ true)
 unfolding cell_refusal
 range-of w c e = go (eqb (state_refusal w).number 0) (coord_in_range c.coord) refl refl e
   where
-    go : (a b : Bool) → eqb (state_refusal w).number 0 ≡ a → coord_in_range c.coord ≡ b → (cond a (ranged 0 c b) (state_refusal w)).number ≡ 0 → Sure w × (cell_in_range (stored c) ≡ true)
+    go : (a b : Bool) → eqb (state_refusal w).number 0 ≡ a → coord_in_range c.coord ≡ b → (cond a (ranged_by 0 c b) (state_refusal w)).number ≡ 0 → Sure w × (cell_in_range (stored c) ≡ true)
     go true true p q k = (sure-of w (eqb→eq (state_refusal w).number 0 (T_true p)), sym (range-of-stored c) ∙ q)
     go true false p q k = absurd (omega arith)
     go false b p q k = absurd (neqb→ne (state_refusal w).number 0 (T_false p) k)
 
--- The same of a refusal that is equal.
-pub range-by : (w : List ℕ) (c : CellId) (r : Refusal) → r ≡ cell_refusal w c → r.number ≡ 0 → Sure w × (cell_in_range (stored c) ≡ true)
-range-by w c r e h = range-of w c (sym (ap (λ (x : Refusal). x.number) e) ∙ h)
-
-module _ (w : List ℕ) (a b : CellId) (no : Refusal) (e : no ≡ cell_refusal w a) where
-  -- The state or the first cell is refused.
-  pub first_way : (no.number ≡ 0 → ⊥) → no ≡ cells_refusal w a b
-  unfolding cells_refusal
-  first_way = first-refuses 1 b no (cell_refusal w a) e
-
-  -- They are not, and the second cell is in range.
-  pub second-inside : no.number ≡ 0 → (t : Bool) → t ≡ coord_in_range b.coord → t ≡ true → none ≡ cells_refusal w a b
-  unfolding cells_refusal
-  second-inside = then-inside 1 b no (cell_refusal w a) e
-
-  -- They are not, and it is out of range.
-  pub second-outside : no.number ≡ 0 → (t : Bool) → t ≡ coord_in_range b.coord → t ≡ false → (axis : ℕ) → axis ≡ bad_axis b.coord → out_of_range 1 axis ≡ cells_refusal w a b
-  unfolding cells_refusal
-  second-outside = then-outside 1 b no (cell_refusal w a) e
+-- The same of one that is let pass.
+pub range-by : (w : List ℕ) (c : CellId) → none ≡ cell_refusal w c → Sure w × (cell_in_range (stored c) ≡ true)
+range-by w c e = range-of w c (sym (ap (λ (x : Refused). x.number) e))
 
 -- Words of which two cells are not refused are those of a consistent state.
-pub both-sure : (w : List ℕ) (a b : CellId) (r : Refusal) → r ≡ cells_refusal w a b → r.number ≡ 0 → Sure w
+pub both-sure : (w : List ℕ) (a b : CellId) → none ≡ cells_refusal w a b → Sure w
 unfolding cells_refusal
-both-sure w a b r e h = go (eqb (cell_refusal w a).number 0) refl (sym (ap (λ (x : Refusal). x.number) e) ∙ h)
+both-sure w a b e = go (eqb (cell_refusal w a).number 0) refl (sym (ap (λ (x : Refused). x.number) e))
   where
-    go : (t : Bool) → eqb (cell_refusal w a).number 0 ≡ t → (cond t (ranged 1 b (coord_in_range b.coord)) (cell_refusal w a)).number ≡ 0 → Sure w
+    go : (t : Bool) → eqb (cell_refusal w a).number 0 ≡ t → (cond t (ranged 1 b) (cell_refusal w a)).number ≡ 0 → Sure w
     go true p k = (range-of w a (eqb→eq (cell_refusal w a).number 0 (T_true p))).0
     go false p k = absurd (neqb→ne (cell_refusal w a).number 0 (T_false p) k)
+
+-- The refusals of a question are never 8.
+pub state-not8 : (w : List ℕ) → eqb (state_refusal w).number 8 ≡ false
+unfolding state_refusal
+state-not8 w = go (long_enough w) (consistent_words w)
+  where
+    go : (l g : Bool) → eqb (cond (not l) too_short (cond g none (broken (first_broken w)))).number 8 ≡ false
+    go false g = refl
+    go true true = refl
+    go true false = refl
+
+then-not8 : (at : ℕ) (c : CellId) (s : Refused) → eqb s.number 8 ≡ false → eqb (unless s (λ r. r) (ranged at c)).number 8 ≡ false
+then-not8 at c s h = go (eqb s.number 0) (coord_in_range c.coord)
+  where
+    go : (a b : Bool) → eqb (cond a (ranged_by at c b) s).number 8 ≡ false
+    go true true = refl
+    go true false = refl
+    go false b = h
+
+pub cell-not8 : (w : List ℕ) (c : CellId) → eqb (cell_refusal w c).number 8 ≡ false
+unfolding cell_refusal
+cell-not8 w c = then-not8 0 c (state_refusal w) (state-not8 w)
+
+pub cells-not8 : (w : List ℕ) (a b : CellId) → eqb (cells_refusal w a b).number 8 ≡ false
+unfolding cells_refusal
+cells-not8 w a b = then-not8 1 b (cell_refusal w a) (cell-not8 w a)

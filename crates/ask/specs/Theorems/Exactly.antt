@@ -6,7 +6,7 @@ use Rattle.std.proofs.Math.Dec.{ltb}
 use Rattle.component.specs.declared.CellId.{CellId}
 use Rattle.component.specs.Coord.{coord_in_range, bad_axis}
 use Rattle.component.specs.Stored.{stored, cell_id}
-use Rattle.refusal.specs.declared.Refusal.{Refusal}
+use Rattle.refusal.specs.Forms.{Refused}
 use Rattle.refusal.specs.Forms as form
 use Rattle.model.specs.Lists.{has, gather}
 use Rattle.model.specs.Cells.{Cell, same}
@@ -24,8 +24,7 @@ use Rattle.told.specs.Told.{Told, done, too_long, refused, seen, fitted}
 use Rattle.told.specs.Exactly.{Exactly, ExactlyPath}
 use Rattle.lookups.specs.Told.{shown_of}
 use Rattle.lists.specs.Told.{path_from, is_shown}
-use Rattle.floods.specs.declared.Depth.{Depth}
-use Rattle.floods.specs.Told.{visited, depth_of}
+use Rattle.floods.specs.Told.{Depth, visited, depth_of}
 use Rattle.consistent.specs.Answer.{state_refusal}
 use Rattle.ask.specs.Answers.{cell_refusal, cells_refusal, kind_of, where_of, id_of, count_of, group_of, ids_of, occupied_of, emptied_of, entities_of, nearby_of, cube_of, flood_of, path_of}
 use Rattle.ask.specs.Laws.Told.{by-cell, lookup-exactly, cell-exactly, list-exactly, cell-list-exactly}
@@ -100,7 +99,7 @@ module _ (w : List ℕ) (a b : CellId) (answer : List ℕ) where
       over : Option (List Cell) → Bool
       over o = ltb (length answer) (length (gather answer_words (cells_of o)))
 
-      both : Bool → Bool → Bool → Bool → Refusal
+      both : Bool → Bool → Bool → Bool → Refused
       both l g i j = cond (eqb (by-cell w a l g i).number 0) (cond j form.none (form.out_of_range 1 (bad_axis b.coord))) (by-cell w a l g i)
 
       given : List Cell → Bool → Told (Bool × ℕ) × List ℕ

@@ -20,8 +20,7 @@ use Rattle.neighbourhood.specs.Answers.{answer_words}
 use Rattle.told.specs.Told.{Told, done, too_long, refused, fitted}
 use Rattle.told.specs.Laws.Numbers.{list-kept}
 use Rattle.lists.specs.Told.{path_from}
-use Rattle.floods.specs.declared.Depth.{Depth}
-use Rattle.floods.specs.Told.{visited, depth_of}
+use Rattle.floods.specs.Told.{Depth, visited, depth_of}
 use Rattle.consistent.specs.Answer.{state_refusal}
 use Rattle.ask.specs.Answers.{cell_refusal, cells_refusal, ids_of, occupied_of, emptied_of, entities_of, nearby_of, cube_of, flood_of, path_of}
 

@@ -9,7 +9,7 @@ use Rattle.component.specs.declared.CellId.{CellId}
 use Rattle.component.specs.First.{FirstAt}
 use Rattle.component.specs.Coord.{axis_in, bad_axis, coord_in_range}
 use Rattle.component.specs.Theorems.{bad-axis-first}
-use Rattle.refusal.specs.declared.Refusal.{Refusal}
+use Rattle.refusal.specs.Forms.{Refused}
 use Rattle.refusal.specs.Forms.{none, out_of_range}
 use Rattle.layout.specs.Points.{long_enough, consistent_words, first_broken}
 use Rattle.consistent.specs.Answer.{state_refusal}
@@ -17,7 +17,7 @@ use Rattle.ask.specs.Answers.{cell_refusal, cells_refusal}
 use Rattle.ask.specs.Laws.Told.{by-cell}
 
 -- The place of a refusal by its number: a point with 2, a position and an axis with 4.
-pub record Placed (r : Refusal) (point at axis : ℕ) : Type 0 where
+pub record Placed (r : Refused) (point at axis : ℕ) : Type 0 where
   pub thing : r.at ≡ cond (eqb r.number 2) point (cond (eqb r.number 4) at 0)
   pub side : r.axis ≡ cond (eqb r.number 4) axis 0
 
@@ -37,7 +37,7 @@ abbrev pub axes : CellCoord → List Bool
 axes p = axis_in p.x ∷ axis_in p.y ∷ axis_in p.z ∷ []
 
 -- What 4 tells of two cells: the first where it is out of range, else the second; and the first axis of it that is.
-pub record FourTells (r : Refusal) (a b : CellCoord) : Type 0 where
+pub record FourTells (r : Refused) (a b : CellCoord) : Type 0 where
   pub which : r.at ≡ cond (coord_in_range a) 1 0
   pub first-axis : FirstAt r.axis (axes (cond (coord_in_range a) b a))
 
@@ -58,7 +58,7 @@ module _ (w : List ℕ) where
   unfolding cells_refusal cell_refusal state_refusal
   cells-four a b = go (long_enough w) (consistent_words w) (coord_in_range a.coord) (coord_in_range b.coord) refl refl
     where
-      both : Bool → Bool → Bool → Bool → Refusal
+      both : Bool → Bool → Bool → Bool → Refused
       both l g i j = cond (eqb (by-cell w a l g i).number 0) (cond j none (out_of_range 1 (bad_axis b.coord))) (by-cell w a l g i)
 
       go : (l g i j : Bool) → coord_in_range a.coord ≡ i → coord_in_range b.coord ≡ j → (both l g i j).number ≡ 4 → FourTells (both l g i j) a.coord b.coord

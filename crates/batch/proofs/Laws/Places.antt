@@ -3,7 +3,7 @@ use Rattle.std.specs.Prelude.{ℕ, suc, ◌+◌, ◌*◌, ◌<◌, ◌≤◌, �
 use Rattle.std.proofs.Common.{arith, sym, ◌∙◌, eqb-true}
 use Rattle.std.proofs.Math.Path.{ap}
 use Rattle.component.specs.Range.{stored_bad_axis}
-use Rattle.refusal.specs.declared.Refusal.{Refusal}
+use Rattle.refusal.specs.Forms.{Refused}
 use Rattle.refusal.specs.Forms as form
 use Rattle.model.specs.Lists.{all}
 use Rattle.model.specs.Cells.{Cell}
@@ -17,7 +17,7 @@ use Rattle.batch.proofs.Laws.Words.{moves_left, moves-start, moves-step, moves-e
 
 -- The first of the moves from the i-th on that goes out of range.
 module _ (b : List ℕ) (from moves : ℕ) where
-  abbrev pub out_from : ℕ → Refusal
+  abbrev pub out_from : ℕ → Refused
   out_from i = first_out i (moves_left b from moves i)
 
   pub out-start : first_out 0 (moves_in moves (drop from b)) ≡ out_from 0
@@ -89,7 +89,7 @@ placed-plain b n f = cond_no (eqb n 4) (first_out 0 b.moves) (form.plain n) (neq
 
 -- The refusals of a batch in their order.
 module _ (next : ℕ) (s : List ℕ) (r m : ℕ) (h : r ≤ length s) where
-  abbrev told : Refusal
+  abbrev told : Refused
   told = batch_refusal (batch_of s r m) (early next (batch_of s r m))
 
   -- 3.
@@ -97,16 +97,16 @@ module _ (next : ℕ) (s : List ℕ) (r m : ℕ) (h : r ≤ length s) where
   unfolding batch_refusal
   refused-many k = ap (batch_refusal (batch_of s r m)) (early-many next s r m h k)
 
-  module _ (k : r + m ≤ most_events) (p : Refusal) (e : p ≡ first_out 0 (moves_in m (drop r s))) where
+  module _ (k : r + m ≤ most_events) (p : Refused) (e : p ≡ first_out 0 (moves_in m (drop r s))) where
     -- 4 with its place.
     pub refused-out : (p.number ≡ 0 → ⊥) → p ≡ told
     unfolding batch_refusal batch_of
     refused-out f =
-        e ∙ ap (batch_refusal (batch_of s r m)) (early-out next s r m h k (one_out 0 (moves_in m (drop r s)) (λ z. f (ap (λ (q : Refusal). q.number) e ∙ z))))
+        e ∙ ap (batch_refusal (batch_of s r m)) (early-out next s r m h k (one_out 0 (moves_in m (drop r s)) (λ z. f (ap (λ (q : Refused). q.number) e ∙ z))))
 
     module _ (z : p.number ≡ 0) where
       in-range : all ranged (moves_in m (drop r s)) ≡ true
-      in-range = none_out 0 (moves_in m (drop r s)) (sym (ap (λ (q : Refusal). q.number) e) ∙ z)
+      in-range = none_out 0 (moves_in m (drop r s)) (sym (ap (λ (q : Refused). q.number) e) ∙ z)
 
       -- 5.
       pub refused-late : last_next < next → form.few_ids ≡ told

@@ -4,7 +4,7 @@ use Rattle.std.proofs.Common.{arith, subst}
 use Rattle.component.specs.First.{FirstAt}
 use Rattle.component.specs.Range.{axis_in_range, stored_bad_axis}
 use Rattle.component.specs.Theorems.{stored-bad-axis-first, first_one}
-use Rattle.refusal.specs.declared.Refusal.{Refusal}
+use Rattle.refusal.specs.Forms.{Refused}
 use Rattle.refusal.specs.Forms.{out_of_range}
 use Rattle.model.specs.Lists.{each}
 use Rattle.model.specs.Cells.{Cell}
@@ -20,7 +20,7 @@ pub record BadMove (at axis : ℕ) (moves : List (ℕ × Cell)) : Type 0 where
   pub on : FirstAt axis (get_or (each axes_in moves) at [])
 
 -- A refusal tells the first bad move, the first of the moves being at position n.
-abbrev Found : ℕ → Refusal → List (ℕ × Cell) → Type 0
+abbrev Found : ℕ → Refused → List (ℕ × Cell) → Type 0
 Found n r ms = (p : ℕ) × (r.at ≡ n + p) × BadMove p r.axis ms
 
 found : (n : ℕ) (ms : List (ℕ × Cell)) → (first_out n ms).number ≡ 4 → Found n (first_out n ms) ms

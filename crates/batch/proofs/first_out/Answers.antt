@@ -1,5 +1,4 @@
--- `first_out` meets its contract.
-use native.Mathlib.Omega.{arith}
+-- `first_out` meets its contract: what is told of all moves is told of those from row i on.
 use mathlib.Core.Path.{sym, ap, ◌∙◌}
 use Rattle.component.specs.Range.{cell_in_range, stored_bad_axis}
 use Rattle.refusal.specs.Forms.{out_of_range}
@@ -8,25 +7,20 @@ use Rattle.batch.proofs.first_out.Goals as goal
 
 pub returns-then-not-stored_in_range : goal.returns-then-not-stored_in_range
 returns-then-not-stored_in_range c =
-    let q = c in
-    let a = q.args in
-    let l = q.loop-i in
-    c.out_of_range.ensures
-    ∙ ap (out_of_range l.i) (c.stored_bad_axis.ensures ∙ ap stored_bad_axis q.move_cell-c.ensures)
-    ∙ sym (l.invariant.1 ∙ out-here a.batch.now a.from a.moves l.i q.loop-i-test.true
-    (ap cell_in_range (sym q.move_cell-c.ensures) ∙ sym q.stored_in_range.ensures ∙ c.if-not-stored_in_range.true))
+    let a = c.args in
+    let l = c.loop-i in
+    ap (out_of_range l.i) (c.stored_bad_axis-axis.ensures ∙ ap stored_bad_axis c.move_cell-c.ensures)
+    ∙ sym (l.invariant ∙ out-here a.batch.now a.from a.moves l.i c.loop-i-test.true
+    (ap cell_in_range (sym c.move_cell-c.ensures) ∙ sym c.stored_in_range.ensures ∙ c.if-not-stored_in_range.true))
 
 pub loop-i-preserved : goal.loop-i-preserved
 loop-i-preserved c =
     let a = c.args in
-    let l = c.loop-i in (
-      omega (arith, c.loop-i-test.true),
-      l.invariant.1 ∙ out-behind a.batch.now a.from a.moves l.i c.loop-i-test.true
-          (ap cell_in_range (sym c.move_cell-c.ensures) ∙ sym c.stored_in_range.ensures ∙ c.if-not-stored_in_range.false),
-    )
+    let l = c.loop-i in
+    l.invariant ∙ out-behind a.batch.now a.from a.moves l.i c.loop-i-test.true
+    (ap cell_in_range (sym c.move_cell-c.ensures) ∙ sym c.stored_in_range.ensures ∙ c.if-not-stored_in_range.false)
 
 pub returns : goal.returns
 returns c =
     let a = c.args in
-    c.none.ensures
-    ∙ sym (c.loop-i.invariant.1 ∙ out-end a.batch.now a.from a.moves c.loop-i.i c.loop-i-test.false)
+    sym (c.loop-i.invariant ∙ out-end a.batch.now a.from a.moves c.loop-i.i c.loop-i-test.false)

@@ -1,5 +1,4 @@
 -- `first_out` meets its contract.
-use Prim.Native.Nat.{◌≤◌, ◌-◌}
 use mathlib.Core.Path.{◌≡◌}
 use lib.ListN.{drop}
 use Rattle.batch.specs.Words.{moves_in}
@@ -8,7 +7,4 @@ use Rattle.batch.proofs.Laws.Places.{out_from}
 use Rattle.batch.proofs.first_out.Given as goal
 
 abbrev pub invariant-loop-i : goal.invariant-loop-i
-invariant-loop-i l = (l.i ≤ l.moves) × (first_out 0 (moves_in l.moves (drop l.from l.batch)) ≡ out_from l.batch l.from l.moves l.i)
-
-abbrev pub decreases-loop-i : goal.decreases-loop-i
-decreases-loop-i l = l.moves - l.i
+invariant-loop-i l = first_out 0 (moves_in l.moves (drop l.from l.batch)) ≡ out_from l.batch l.from l.moves l.i

@@ -1,4 +1,4 @@
--- `play_event` meets its contract.
+-- An event is a removal or a move.
 use mathlib.Core.Path.{ap, ◌∙◌}
 use lib.ListN.{get_or}
 use Rattle.model.specs.Cells.{cell_in_range}
@@ -13,19 +13,19 @@ play_removal-requires c =
     let p = c.requires in
     (p.1, p.2.held, ready-leave p.2)
 
-pub returns-then-k-removals : goal.returns-then-k-removals
-returns-then-k-removals c =
+pub returns-then-k-removals-clause-held : goal.returns-then-k-removals-clause-held
+returns-then-k-removals-clause-held c =
     let a = c.args in
-    λ o h. held-event o (removal-at a.batch.now a.removals a.k c.if-k-removals.true) (c.play_removal.ensures o h)
+    λ o h. held-event a.tables.now.kind o (removal-at a.batch.now a.removals a.k c.if-k-removals.true) (c.play_removal.ensures.held o h)
 
 pub play_move-requires : goal.play_move-requires
 play_move-requires c =
     let p = c.requires in
     (p.1, p.2.held, ap cell_in_range c.move_cell-c.ensures ∙ p.3.move-ranged c.if-k-removals.false, ready-enter p.2, ready-leave p.2)
 
-pub returns : goal.returns
-returns c =
+pub returns-else-k-removals-clause-held : goal.returns-else-k-removals-clause-held
+returns-else-k-removals-clause-held c =
     let a = c.args in
     let b = a.batch.now in
     let e = ap (move_to (get_or b (move_place a.removals a.k) 0)) c.move_cell-c.ensures ∙ move-at b a.removals a.k c.if-k-removals.false in
-    λ o h. held-event o e (c.play_move.ensures o h)
+    λ o h. held-event a.tables.now.kind o e (c.play_move.ensures.held o h)

@@ -14,7 +14,7 @@ use Rattle.model.proofs.Laws.Occupied.{pass-sound, events-keep}
 use Rattle.model.proofs.Laws.Net.{pass-net}
 use Rattle.map.specs.declared.Counts.{Counts}
 use Rattle.map.specs.Held.{Held, RoomToEnter, RoomToLeave}
-use Rattle.batch_events.specs.declared.Played.{Played}
+use Rattle.refusal.specs.Forms.{Refused, plain}
 use Rattle.batch_events.specs.Playing.{judged, Roomy, Ready, Going, Outcome}
 
 -- The net lists stay the difference with an event.
@@ -60,10 +60,14 @@ module _ {kind : ℕ} {ents cells crowd occ emp : List ℕ} {n : Counts} {was : 
 pub going-at : {kind : ℕ} {ents cells crowd occ emp : List ℕ} {n : Counts} {was : List Cell} {o : Occupancy} {es left left' : List Event} → left ≡ left' → Going kind ents cells crowd occ emp n was o es left → Going kind ents cells crowd occ emp n was o es left'
 going-at {kind} e g = record { at = g.at; ready = g.ready; broken = g.broken ∙ ap (broken_by (touch_at kind) g.at) e; ends = g.ends ∙ ap (run (play (touch_at kind)) g.at) e }
 
+-- The same kind, said in another way.
+pub going-kind : {kind kind' : ℕ} {ents cells crowd occ emp : List ℕ} {n : Counts} {was : List Cell} {o : Occupancy} {es left : List Event} → kind' ≡ kind → Going kind ents cells crowd occ emp n was o es left → Going kind' ents cells crowd occ emp n was o es left
+going-kind {kind} {kind'} {ents} {cells} {crowd} {occ} {emp} {n} {was} {o} {es} {left} q g = subst (λ (k : ℕ). Going k ents cells crowd occ emp n was o es left) (sym q) g
+
 -- Room is a matter of lengths.
-roomy-kept : (ents cells crowd occ emp ents' cells' crowd' occ' emp' : List ℕ) → length ents' ≡ length ents → length cells' ≡ length cells → length crowd' ≡ length crowd → length occ' ≡ length occ → length emp' ≡ length emp
+roomy-kept : {ents cells crowd occ emp ents' cells' crowd' occ' emp' : List ℕ} → length ents' ≡ length ents → length cells' ≡ length cells → length crowd' ≡ length crowd → length occ' ≡ length occ → length emp' ≡ length emp
     → Roomy ents cells crowd occ emp → Roomy ents' cells' crowd' occ' emp'
-roomy-kept ents cells crowd occ emp ents' cells' crowd' occ' emp' a b c d e r =
+roomy-kept a b c d e r =
     record {
       ents-room = omega (arith, r.ents-room, a);
       cells-room = omega (arith, r.cells-room, b);
@@ -84,7 +88,7 @@ stop-first false true m k e f = e
 stop-first false false m k e f = absurd (f e)
 
 module _ {kind : ℕ} {ents cells crowd occ emp : List ℕ} {n : Counts} {was : List Cell} {o : Occupancy} {es : List Event} (ev : Event) (left : List Event) (g : Going kind ents cells crowd occ emp n was o es (ev ∷ left))
-    (ents' cells' crowd' occ' emp' : List ℕ) (n' : Counts) (h : Held kind ents' cells' crowd' occ' emp' n' (play (touch_at kind) g.at ev)) where
+    {ents' cells' crowd' occ' emp' : List ℕ} {n' : Counts} (h : Held kind ents' cells' crowd' occ' emp' n' (play (touch_at kind) g.at ev)) where
   abbrev after : Occupancy
   after = play (touch_at kind) g.at ev
 
@@ -94,9 +98,14 @@ module _ {kind : ℕ} {ents cells crowd occ emp : List ℕ} {n : Counts} {was : 
       λ i. cond (ltb most_entities (h.entities-count i)) 6 (cond (ltb most_cells ((h.stored.cells_count ∙ sym (keys_length after.masks)) i)) 7 0)
 
   -- An event that breaks a limit decides.
-  pub going-stop : (k : ℕ) → k ≡ judged n' → (k ≡ 0 → ⊥) → k ≡ broken_by (touch_at kind) o es
-  going-stop k e f =
-      stop-first (too_many_entities after) (too_many_cells after) (broken_by (touch_at kind) after left) k (e ∙ judged-is) f ∙ sym g.broken
+  pub going-stop : {r : Refused} → r ≡ plain (judged n') → (r.number ≡ 0 → ⊥) → Outcome kind ents' cells' crowd' occ' emp' n' r was o es
+  going-stop {r} e f =
+      let k : ℕ = judged n' in
+      let z : k ≡ 0 → ⊥ = λ q. f (ap (λ (x : Refused). x.number) e ∙ q) in
+      record {
+        number = e ∙ ap plain (stop-first (too_many_entities after) (too_many_cells after) (broken_by (touch_at kind) after left) k judged-is z ∙ sym g.broken);
+        ready = λ q. absurd (f q);
+      }
 
   -- An event that breaks none leaves the decision to the others.
   pub going_next : length ents' ≡ length ents → length cells' ≡ length cells → length crowd' ≡ length crowd → length occ' ≡ length occ → length emp' ≡ length emp
@@ -114,7 +123,7 @@ module _ {kind : ℕ} {ents cells crowd occ emp : List ℕ} {n : Counts} {was : 
           was-asc = g.ready.was-asc;
           was-few = g.ready.was-few;
           net = play-net kind was g.ready.was-asc g.at g.ready.held.placed.sound g.ready.net ev;
-          room = roomy-kept ents cells crowd occ emp ents' cells' crowd' occ' emp' a b c d e g.ready.room;
+          room = roomy-kept a b c d e g.ready.room;
         };
         broken = g.broken ∙ p.2;
         ends = g.ends;
@@ -122,14 +131,17 @@ module _ {kind : ℕ} {ents cells crowd occ emp : List ℕ} {n : Counts} {was : 
 
 -- No event is left.
 pub going_end : {kind : ℕ} {ents cells crowd occ emp : List ℕ} {n : Counts} {was : List Cell} {o : Occupancy} {es : List Event} (left : List Event) → left ≡ [] → Going kind ents cells crowd occ emp n was o es left
-    → (r : Played) → r.number ≡ 0 → r.counts ≡ n → Outcome kind ents cells crowd occ emp r was o es
-going_end {kind} {ents} {cells} {crowd} {occ} {emp} {n} {was} {o} {es} left e g r z q =
+    → Outcome kind ents cells crowd occ emp n (plain 0) was o es
+going_end {kind} {ents} {cells} {crowd} {occ} {emp} {n} {was} {o} {es} left e g =
     record {
-      number = z ∙ sym (g.broken ∙ ap (broken_by (touch_at kind) g.at) e);
-      ready = λ k. subst (λ (m : Counts). Ready kind ents cells crowd occ emp m was (run (play (touch_at kind)) o es)) (sym q)
-          (subst (λ (u : Occupancy). Ready kind ents cells crowd occ emp n was u) (sym (g.ends ∙ ap (run (play (touch_at kind)) g.at) e)) g.ready);
+      number = ap plain (sym (g.broken ∙ ap (broken_by (touch_at kind) g.at) e));
+      ready = λ k. subst (λ (u : Occupancy). Ready kind ents cells crowd occ emp n was u) (sym (g.ends ∙ ap (run (play (touch_at kind)) g.at) e)) g.ready;
     }
 
+-- The outcome at the same kind.
+pub outcome-kind : {kind kind' : ℕ} {ents cells crowd occ emp : List ℕ} {n : Counts} {r : Refused} {was : List Cell} {o : Occupancy} {es : List Event} → kind' ≡ kind → Outcome kind ents cells crowd occ emp n r was o es → Outcome kind' ents cells crowd occ emp n r was o es
+outcome-kind {kind} {kind'} {ents} {cells} {crowd} {occ} {emp} {n} {r} {was} {o} {es} q g = subst (λ (k : ℕ). Outcome k ents cells crowd occ emp n r was o es) (sym q) g
+
 -- An event, said in another way.
-pub held-event : {kind : ℕ} {ents cells crowd occ emp : List ℕ} {n : Counts} (o : Occupancy) {e f : Event} → e ≡ f → Held kind ents cells crowd occ emp n (play (touch_at kind) o e) → Held kind ents cells crowd occ emp n (play (touch_at kind) o f)
-held-event {kind} {ents} {cells} {crowd} {occ} {emp} {n} o q h = subst (λ (e : Event). Held kind ents cells crowd occ emp n (play (touch_at kind) o e)) q h
+pub held-event : {kind : ℕ} {ents cells crowd occ emp : List ℕ} {n : Counts} (k : ℕ) (o : Occupancy) {e f : Event} → e ≡ f → Held kind ents cells crowd occ emp n (play (touch_at k) o e) → Held kind ents cells crowd occ emp n (play (touch_at k) o f)
+held-event {kind} {ents} {cells} {crowd} {occ} {emp} {n} k o q h = subst (λ (e : Event). Held kind ents cells crowd occ emp n (play (touch_at k) o e)) q h

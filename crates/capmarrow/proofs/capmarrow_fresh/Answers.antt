@@ -1,5 +1,6 @@
 -- A slice for what is told that is too short; else what the call answers is told.
 use Rattle.fresh.specs.Answer.{fresh_of}
+use Rattle.refusal.specs.Forms.{outcome}
 use Rattle.telling.specs.Words.{refusal_told}
 use Rattle.telling.proofs.Laws.Tells.{filled-short, filled-long}
 use Rattle.capmarrow.proofs.capmarrow_fresh.Goals as goal
@@ -16,5 +17,5 @@ returns c =
     let i = f in
     let s = i in
     filled-long 3 refusal_told (fresh_of s.args.state.now s.args.first_id s.args.kind) s.args.told.now s.args.state.now i.if-told-lt3.false
-    f.fresh-r.result f.fresh-r.new.state f.fresh-r.ensures
-    (t.tell_refusal.result, t.tell_refusal.new.told) t.tell_refusal.ensures
+    (outcome f.fresh-r.result) f.fresh-r.new.state f.fresh-r.ensures
+    (t.tell_outcome.result, t.tell_outcome.new.told) t.tell_outcome.ensures

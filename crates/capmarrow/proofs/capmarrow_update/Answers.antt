@@ -1,5 +1,6 @@
 -- A slice for what is told that is too short; else what the call answers is told.
 use Rattle.yard.specs.Update.{update_of}
+use Rattle.refusal.specs.Forms.{outcome}
 use Rattle.telling.specs.Words.{refusal_told}
 use Rattle.telling.proofs.Laws.Tells.{filled-short, filled-long}
 use Rattle.capmarrow.proofs.capmarrow_update.Goals as goal
@@ -16,5 +17,5 @@ returns c =
     let i = f in
     let s = i in
     filled-long 3 refusal_told (update_of s.args.state.now s.args.batch.now s.args.removals s.args.moves) s.args.told.now s.args.state.now i.if-told-lt3.false
-    f.update-r.result f.update-r.new.state f.update-r.ensures
-    (t.tell_refusal.result, t.tell_refusal.new.told) t.tell_refusal.ensures
+    (outcome f.update-r.result) f.update-r.new.state f.update-r.ensures
+    (t.tell_outcome.result, t.tell_outcome.new.told) t.tell_outcome.ensures

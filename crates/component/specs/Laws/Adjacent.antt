@@ -8,7 +8,7 @@ use Rattle.component.specs.Range.{cell_in_range}
 use Rattle.component.specs.Laws.Range.{in-range-axes}
 use Rattle.component.specs.Laws.Tests.{both}
 use Rattle.component.specs.declared.Cell.{Cell}
-use Rattle.component.specs.declared.Neighbour.TheVariants.{Is, Nothing}
+use Rattle.std.specs.Prelude.{Some, None}
 
 axis-room : (r n : ℕ) → axis_room r n ≡ true → AxisRoom r n
 axis-room r n e =
@@ -41,13 +41,13 @@ range-above r c h e = room-above r c (range-room r c h e)
 
 -- About a cell in range `adjacent` gives each neighbour.
 pub range-adjacent : (r : ℕ) (c : Cell) → r ≤ 255 → cell_in_range c ≡ true → (k : ℕ) → k < neighbour_count r
-    → adjacent_of r c k ≡ Is (neighbour_at r c k)
+    → adjacent_of r c k ≡ Some (neighbour_at r c k)
 range-adjacent r c h e k l =
-    λ i. cond (lt-ltb k (neighbour_count r) l i && range-room r c h e i) (Is (neighbour_at r c k)) Nothing
+    λ i. cond (lt-ltb k (neighbour_count r) l i && range-room r c h e i) (Some (neighbour_at r c k)) None
 
 -- So each cell within r of a cell in range, but that cell, is given: among them all that are in range.
 pub range-found : (r : ℕ) (c d : Cell) → r ≤ 255 → cell_in_range c ≡ true → Within r c d → (d ≢ c)
-    → (k : ℕ) × ((k < neighbour_count r) × (adjacent_of r c k ≡ Is d))
+    → (k : ℕ) × ((k < neighbour_count r) × (adjacent_of r c k ≡ Some d))
 range-found r c d h e w ne =
     let s = neighbour-found r c d (range-above r c h e) w ne in
-    (s.0, (s.1.0, range-adjacent r c h e s.0 s.1.0 ∙ ap Is s.1.1))
+    (s.0, (s.1.0, range-adjacent r c h e s.0 s.1.0 ∙ ap Some s.1.1))

@@ -4,14 +4,14 @@ use Rattle.std.proofs.Math.Path.{sym}
 use Rattle.std.proofs.Common.{ap, ◌∙◌, subst, le-leb}
 use Rattle.std.proofs.lemmas.Bool.{lt-leb}
 use Rattle.model.proofs.Laws.Tests.{cond_yes, cond_no, eqb_of, neqb-of}
-use Rattle.refusal.specs.declared.Refusal.{Refusal}
+use Rattle.refusal.specs.Forms.{Refused}
 use Rattle.refusal.specs.Forms.{none, too_short, broken}
 use Rattle.layout.specs.State.{state_len}
 use Rattle.layout.specs.Points.{long_enough, first_broken}
 use Rattle.consistent.specs.Answer.{state_refusal}
 
 -- What is answered, by whether the words are long enough and by the first broken point.
-abbrev by_tests : Bool → ℕ → Refusal
+abbrev by_tests : Bool → ℕ → Refused
 by_tests l p = cond (not l) too_short (cond (eqb p 0) none (broken p))
 
 module _ (w : List ℕ) where

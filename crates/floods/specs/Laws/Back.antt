@@ -1,25 +1,23 @@
 -- What is told of a flood tells which answer it was.
-use Rattle.std.specs.Prelude.{ℕ, ◌≡◌, refl, Bool, true, false}
-use Rattle.refusal.specs.Forms.{placed}
-use Rattle.told.specs.Told.{Beside, values, needed, place, Told}
+use Rattle.std.specs.Prelude.{◌≡◌, Bool, Result, Ok, Err}
+use Rattle.std.proofs.Math.Path.{refl, ap}
+use Rattle.refusal.specs.declared.Refusal.{Refusal}
+use Rattle.told.specs.Told.{Told}
+use Rattle.told.specs.Laws.Back.{told_back, told-back}
 use Rattle.floods.specs.declared.Visited.{Visited}
-use Rattle.floods.specs.declared.Flooding.{Flooding}
+use Rattle.floods.specs.declared.Flooded.{Flooded}
 use Rattle.floods.specs.Told.{flooding_told}
 
--- The answer of which a number and what stands beside it are told.
-answer_of : ℕ → Beside (Bool × Visited) → Flooding
-answer_of n (values (true, v)) = Flooding.Found v
-answer_of n (values (false, v)) = Flooding.NotFound v
-answer_of n (needed k) = Flooding.TooLong k
-answer_of n (place at axis) = Flooding.Refused (placed n at axis)
+-- A flood by whether its seed was found and what it visited.
+abbrev flood_of : Result (Bool × Visited) Refusal → Result Flooded Refusal
+flood_of (Ok l) = Ok (record { found = l.0; visited = l.1 })
+flood_of (Err r) = Err r
 
-pub flooding_back : Told (Bool × Visited) → Flooding
-flooding_back t = answer_of t.number t.beside
+pub flooding_back : Told (Bool × Visited) → Result Flooded Refusal
+flooding_back t = flood_of (told_back t)
 
 -- It comes back to the answer.
-pub flooding-back : (a : Flooding) → flooding_back (flooding_told a) ≡ a
-unfolding flooding_back answer_of
-flooding-back (Flooding.Found v) = refl
-flooding-back (Flooding.NotFound v) = refl
-flooding-back (Flooding.TooLong k) = refl
-flooding-back (Flooding.Refused r) = refl
+pub flooding-back : (a : Result Flooded Refusal) → flooding_back (flooding_told a) ≡ a
+unfolding flooding_back
+flooding-back (Ok l) = refl
+flooding-back (Err r) = ap flood_of (told-back (Err r))

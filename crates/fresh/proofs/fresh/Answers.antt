@@ -3,15 +3,14 @@ use native.Mathlib.Omega.{arith}
 use mathlib.Core.Path.{sym, ◌∙◌}
 use lib.ListN.{length-set}
 use Rattle.layout.specs.Widths.{next_id_at}
-use Rattle.fresh.specs.Laws.Image.{begun, header-within, fresh-short, fresh-unknown, fresh-late, fresh-done}
+use Rattle.fresh.specs.Laws.Image.{header-within, fresh-short, fresh-unknown, fresh-late, fresh-done}
 use Rattle.fresh.proofs.fresh.Goals as goal
 
 pub returns-then-state-n : goal.returns-then-state-n
 returns-then-state-n c =
     let a = c.args in
     let n = c.state_len-n in
-    (λ i. (c.too_short.ensures i, a.state.now))
-    ∙ fresh-short a.state.now a.first_id a.kind n.result n.ensures c.if-state-n.true
+    fresh-short a.state.now a.first_id a.kind n.result n.ensures c.if-state-n.true
 
 pub returns-then-not-is_kind : goal.returns-then-not-is_kind
 returns-then-not-is_kind c =
@@ -19,8 +18,7 @@ returns-then-not-is_kind c =
     let b = k in
     let n = b.state_len-n in
     let a = b.args in
-    (λ i. (c.unknown_kind.ensures i, a.state.now))
-    ∙ fresh-unknown a.state.now a.first_id a.kind n.result n.ensures b.if-state-n.false (sym k.is_kind.ensures ∙ c.if-not-is_kind.true)
+    fresh-unknown a.state.now a.first_id a.kind n.result n.ensures b.if-state-n.false (sym k.is_kind.ensures ∙ c.if-not-is_kind.true)
 
 pub returns-then-first_id-gt-MOST_NEXT_ID : goal.returns-then-first_id-gt-MOST_NEXT_ID
 returns-then-first_id-gt-MOST_NEXT_ID c =
@@ -28,8 +26,7 @@ returns-then-first_id-gt-MOST_NEXT_ID c =
     let b = k in
     let n = b.state_len-n in
     let a = b.args in
-    (λ i. (c.few_ids.ensures i, a.state.now))
-    ∙ fresh-late a.state.now a.first_id a.kind n.result n.ensures b.if-state-n.false (sym k.is_kind.ensures ∙ c.if-not-is_kind.false) (omega (arith, c.if-first_id-gt-MOST_NEXT_ID.true))
+    fresh-late a.state.now a.first_id a.kind n.result n.ensures b.if-state-n.false (sym k.is_kind.ensures ∙ c.if-not-is_kind.false) (omega (arith, c.if-first_id-gt-MOST_NEXT_ID.true))
 
 pub bounds-state-6 : goal.bounds-state-6
 bounds-state-6 c = omega (arith, header-within)
@@ -48,5 +45,4 @@ returns c =
     let b = k in
     let n = b.state_len-n in
     let a = b.args in
-    (λ i. (c.none.ensures i, begun z.new.s a.first_id a.kind))
-    ∙ fresh-done a.state.now a.first_id a.kind n.result n.ensures b.if-state-n.false (sym k.is_kind.ensures ∙ f.if-not-is_kind.false) (omega (arith, f.if-first_id-gt-MOST_NEXT_ID.false)) z.new.s z.ensures
+    fresh-done a.state.now a.first_id a.kind n.result n.ensures b.if-state-n.false (sym k.is_kind.ensures ∙ f.if-not-is_kind.false) (omega (arith, f.if-first_id-gt-MOST_NEXT_ID.false)) z.new.s z.ensures

@@ -6,7 +6,7 @@ use Rattle.std.proofs.Math.Bool.{false}
 use mathlib.Core.List.{List, ◌∷◌, ◌++◌}
 use Rattle.std.proofs.lemmas.List.{length-replicate, replicate-append-replicate}
 use borrow.Author.Tests.{le-leb, lt-leb, lt-ltb, le-ltb}
-use Rattle.refusal.specs.declared.Refusal.{Refusal}
+use Rattle.refusal.specs.Forms.{Refused}
 use Rattle.refusal.specs.Forms as form
 use Rattle.refusal.specs.Forms.{none, too_short, unknown_kind}
 use Rattle.model.specs.Cells.{is_kind}
@@ -70,7 +70,7 @@ pub header-within : kind_at < state_len
 header-within = omega (arith, all_words)
 
 -- What is answered and left, by the three tests.
-abbrev pub answered : List ℕ → ℕ → ℕ → Bool → Bool → Bool → Refusal × List ℕ
+abbrev pub answered : List ℕ → ℕ → ℕ → Bool → Bool → Bool → Refused × List ℕ
 answered w first kind l k f =
     cond (not l) (too_short, w) (cond (not k) (unknown_kind, w) (cond f (form.few_ids, w) (none, encode (fresh first kind) ++ drop state_len w)))
 

@@ -4,7 +4,7 @@ use native.Mathlib.Omega.{arith}
 use Rattle.std.proofs.Math.Path.{sym}
 use Rattle.std.proofs.Common.{ap, ◌∙◌, ⊎_elim, lt-ltb, le-ltb}
 use Rattle.component.specs.declared.Cell.{Cell}
-use Rattle.component.specs.declared.Neighbour.TheVariants.{Is, Nothing}
+use Rattle.std.specs.Prelude.{Some, None}
 use Rattle.component.specs.Around.{step_n, place, neighbour_at, Above, Within}
 use Rattle.component.specs.Adjacent.{has_room}
 use Rattle.component.specs.Laws.Adjacent.{room-above}
@@ -100,7 +100,7 @@ module _ (c : Cell) (room : has_room 1 c ≡ true) where
   pub neighbour-at : (n : ℕ) → 1 ≤ n → n ≤ 26 → neighbour_of c n ≡ neighbour_at 1 c (n - 1)
   neighbour-at n h k =
       let l : ltb (n - 1) 26 ≡ true = lt-ltb (n - 1) 26 (omega arith) in
-      λ i. or_self c (cond (l i && room i) (Is (neighbour_at 1 c (n - 1))) Nothing)
+      λ i. or_self c (cond (l i && room i) (Some (neighbour_at 1 c (n - 1))) None)
 
   -- The neighbour with a number touches the cell.
   pub neighbour-touches : (n : ℕ) → 1 ≤ n → n ≤ 26 → touches c (neighbour_of c n) ≡ true

@@ -1,24 +1,22 @@
 -- What is told of a list tells which answer it was.
-use Rattle.std.specs.Prelude.{ℕ, ◌≡◌, refl, Bool, true, false}
-use Rattle.refusal.specs.Forms.{placed}
-use Rattle.told.specs.Told.{Beside, values, needed, place, Told}
-use Rattle.lists.specs.declared.Listing.{Listing}
+use Rattle.std.specs.Prelude.{ℕ, ◌≡◌, Bool, Result, Ok, Err}
+use Rattle.std.proofs.Math.Path.{refl, ap}
+use Rattle.refusal.specs.declared.Refusal.{Refusal}
+use Rattle.told.specs.Told.{Told}
+use Rattle.told.specs.Laws.Back.{told_back, told-back}
+use Rattle.lists.specs.declared.Listed.{Listed}
 use Rattle.lists.specs.Told.{listing_told}
 
--- The answer of which a number and what stands beside it are told.
-answer_of : ℕ → Beside (Bool × ℕ) → Listing
-answer_of n (values (true, k)) = Listing.Found k
-answer_of n (values (false, k)) = Listing.NotFound k
-answer_of n (needed k) = Listing.TooLong k
-answer_of n (place at axis) = Listing.Refused (placed n at axis)
+-- A list by whether it was found and how many it holds.
+abbrev list_of : Result (Bool × ℕ) Refusal → Result Listed Refusal
+list_of (Ok l) = Ok (record { found = l.0; count = l.1 })
+list_of (Err r) = Err r
 
-pub listing_back : Told (Bool × ℕ) → Listing
-listing_back t = answer_of t.number t.beside
+pub listing_back : Told (Bool × ℕ) → Result Listed Refusal
+listing_back t = list_of (told_back t)
 
 -- It comes back to the answer.
-pub listing-back : (a : Listing) → listing_back (listing_told a) ≡ a
-unfolding listing_back answer_of
-listing-back (Listing.Found k) = refl
-listing-back (Listing.NotFound k) = refl
-listing-back (Listing.TooLong k) = refl
-listing-back (Listing.Refused r) = refl
+pub listing-back : (a : Result Listed Refusal) → listing_back (listing_told a) ≡ a
+unfolding listing_back
+listing-back (Ok l) = refl
+listing-back (Err r) = ap list_of (told-back (Err r))

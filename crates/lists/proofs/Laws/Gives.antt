@@ -1,36 +1,17 @@
 -- Lists are given.
-use Rattle.std.specs.Prelude.{ℕ, ◌*◌, ◌≤◌, ◌<◌, ◌≡◌, Bool, List, length, take}
+use Rattle.std.specs.Prelude.{ℕ, ◌*◌, ◌≤◌, ◌≡◌, Bool, List, length, take}
 use Rattle.std.proofs.Common.{arith, sym, ap, ◌∙◌, length-take-le}
 use Rattle.model.specs.Lists.{gather, keys}
 use Rattle.model.specs.Cells.{Cell}
 use Rattle.model.specs.Questions.{Listed}
 use Rattle.model.proofs.Laws.Members.{each-each}
-use Rattle.table.specs.Moves.{over}
 use Rattle.table.specs.Rows.{table1}
 use Rattle.layout.specs.Widths.{group_width, answer_width}
 use Rattle.layout.specs.Rows.{group_of, groups_in}
 use Rattle.neighbourhood.specs.Answers.{answer_words}
 use Rattle.neighbourhood.proofs.Laws.Filling.{words_long}
 use Rattle.model.specs.Groups.{Group}
-use Rattle.told.specs.Told.{done, too_long}
-use Rattle.told.specs.Laws.Fitting.{fitted-long, fitted-fits}
 use Rattle.lists.specs.Told.{listed, listed_numbers, listed_cells}
-
-module _ (found : Bool) (count : ℕ) (words : List ℕ) (len : ℕ) (answer : List ℕ) (h : len ≤ length words) where
-  abbrev part : List ℕ
-  part = take len words
-
-  size : length part ≡ len
-  size = length-take-le len words h
-
-  -- Too long for its slice.
-  pub give-long : length answer < len → (too_long len, answer) ≡ listed found count (take len words) answer
-  give-long g = ap (λ (m : ℕ). (too_long m, answer)) (sym size) ∙ fitted-long (found, count) part answer (omega (arith, size))
-
-  -- Written.
-  pub give-fits : len ≤ length answer → (answer' : List ℕ) → answer' ≡ over answer 0 (take len words) → (b : Bool) → found ≡ b
-      → (done (b, count), answer') ≡ listed found count (take len words) answer
-  give-fits g answer' e b f = (λ i. (done (sym f i, count), e i)) ∙ fitted-fits (found, count) part answer (omega (arith, size))
 
 -- A list of numbers that stand in words.
 pub numbers-listed : (found : Bool) (count len : ℕ) (words : List ℕ) (l : Listed ℕ) (answer : List ℕ) → found ≡ l.found → take len words ≡ l.list → len ≤ length words → count ≡ len

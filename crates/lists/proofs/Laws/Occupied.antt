@@ -13,8 +13,7 @@ use Rattle.model.proofs.Laws.Tests.{true_of, false_of}
 use Rattle.model.proofs.Laws.Orders.{cells}
 use Rattle.model.proofs.Laws.Members.{keep-shorter, each-length, count-length, has_of, hasnt-of}
 use Rattle.model.specs.Facts.{Asc}
-use Rattle.table.specs.declared.Place.{Place}
-use Rattle.table.specs.declared.Place.TheVariants.{Found, Missing}
+use Rattle.std.specs.Prelude.{Result, Ok, Err}
 use Rattle.table.specs.Rows.{cell, placed, place_of, table4}
 use Rattle.table.specs.Laws.Kinds.{cell-lawful}
 use Rattle.table.specs.Laws.Places.{found_within, missing-key}
@@ -48,7 +47,7 @@ rows_few words i = few (set_of words i (count 0 26)) (keep-shorter (bit (row_mas
     few l h = omega (arith, each-length (row_near words i) l, count-length 0 26)
 
 module _ {kind : ℕ} (words : List ℕ) (n : ℕ) (t : List (Cell × ℕ)) (k : Cells kind words n t) where
-  module _ (c : Cell) (i : ℕ) (e : Found i ≡ place_of below (keys (table4 cell_width n words)) c) where
+  module _ (c : Cell) (i : ℕ) (e : Ok i ≡ place_of below (keys (table4 cell_width n words)) c) where
     found_in : Mem c (keys t)
     found_in =
         subst (λ (l : List Cell). Mem c l) (cells-keys words n t k)
@@ -65,7 +64,7 @@ module _ {kind : ℕ} (words : List ℕ) (n : ℕ) (t : List (Cell × ℕ)) (k :
     -- Its row has it.
     pub found-cell : row_cell words i ≡ c
     unfolding row_for
-    found-cell = ap (λ (p : Place). row_cell words (placed p)) e ∙ (row-for words n t k c found_in).1
+    found-cell = ap (λ (p : Result ℕ ℕ). row_cell words (placed p)) e ∙ (row-for words n t k c found_in).1
 
     -- It touches few.
     list-few : length (touching (touch_at kind) (keys t) (row_cell words i)) ≤ 26
@@ -90,12 +89,12 @@ module _ {kind : ℕ} (words : List ℕ) (n : ℕ) (t : List (Cell × ℕ)) (k :
           ∙ ap (λ (b : Bool). gather answer_words (cond b (c ∷ touching (touch_at kind) (keys t) c) [])) (sym found-has)
 
   -- A cell that is missing is not occupied.
-  pub missing_has : (c : Cell) (i : ℕ) → Missing i ≡ place_of below (keys (table4 cell_width n words)) c → has same (keys t) c ≡ false
+  pub missing_has : (c : Cell) (i : ℕ) → Err i ≡ place_of below (keys (table4 cell_width n words)) c → has same (keys t) c ≡ false
   missing_has c i e =
       false_of (has same (keys t) c)
       (hasnt-of cells c (keys t) (λ m.
       missing-key cells c (keys (table4 cell_width n words)) i (subst (Asc below) (sym (cells-keys words n t k)) k.asc) e (subst (λ (l : List Cell). Mem c l) (sym (cells-keys words n t k)) m)))
 
   -- Then its list is empty.
-  pub missing-words : (c : Cell) (i : ℕ) → Missing i ≡ place_of below (keys (table4 cell_width n words)) c → [] ≡ gather answer_words (nearby_by (touch_at kind) (having t) c).list
+  pub missing-words : (c : Cell) (i : ℕ) → Err i ≡ place_of below (keys (table4 cell_width n words)) c → [] ≡ gather answer_words (nearby_by (touch_at kind) (having t) c).list
   missing-words c i e = ap (λ (b : Bool). gather answer_words (cond b (c ∷ touching (touch_at kind) (keys t) c) [])) (sym (missing_has c i e))

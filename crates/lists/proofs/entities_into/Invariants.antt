@@ -1,5 +1,5 @@
 -- The loop writes the entity of the next row if it stands in the cell.
-use Prim.Native.Nat.{◌-◌, ◌≤◌}
+use Prim.Native.Nat.{◌≤◌}
 use mathlib.Core.Path.{◌≡◌}
 use lib.ListN.{length, take}
 use Rattle.table.specs.Moves.{over}
@@ -8,7 +8,4 @@ use Rattle.lists.specs.Parts.{standing_in}
 use Rattle.lists.proofs.entities_into.Given as goal
 
 abbrev pub invariant-loop-i : goal.invariant-loop-i
-invariant-loop-i l = (l.i ≤ l.n) × (l.k ≤ l.i) × (length l.words ≡ length l.initial.words) × (l.k ≡ length (standing_in (take l.i (entities_in l.n l.rows)) l.c)) × (l.words ≡ over l.initial.words 0 (standing_in (take l.i (entities_in l.n l.rows)) l.c))
-
-abbrev pub decreases-loop-i : goal.decreases-loop-i
-decreases-loop-i l = l.n - l.i
+invariant-loop-i l = (l.k ≤ l.i) × (l.k ≡ length (standing_in (take l.i (entities_in l.n l.rows)) l.c)) × (l.words ≡ over l.initial.words 0 (standing_in (take l.i (entities_in l.n l.rows)) l.c))

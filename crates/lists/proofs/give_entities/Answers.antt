@@ -1,11 +1,10 @@
 -- The entities that stand in the cell are given.
--- The words have space for the entities.
--- They begin with them.
 use Prim.Native.Nat.{ℕ, ◌≤◌}
 use native.Mathlib.Omega.{arith}
 use mathlib.Core.Bool.{not}
-use mathlib.Core.Path.{◌≡◌, refl, ◌∙◌, ap}
+use mathlib.Core.Path.{refl, sym, ◌∙◌, ap}
 use lib.ListN.{length, take, replicate}
+use lib.Seq.{length-take-le}
 use lib.Dec.{eqb}
 use Rattle.model.specs.Update.{most_entities}
 use Rattle.layout.specs.Rows.{entities_in}
@@ -13,31 +12,21 @@ use Rattle.lists.proofs.Laws.Gives.{numbers-listed}
 use Rattle.lists.proofs.Laws.Scans.{over-take, standing-few}
 use Rattle.lists.specs.Parts.{standing_in, any_of}
 use Rattle.lists.proofs.give_entities.Goals as goal
-use Rattle.lists.proofs.give_entities.Lts as lts
-use Rattle.lists.proofs.give_entities.Tie as tie
-use Rattle.lists.proofs.give_entities.Reads as reads
 
-long : (k : lts.After-entities_into tie.the-claims reads.Pre reads.Post) → k.entities_into-k.result ≤ length k.entities_into-k.new.words
-long k =
-    let s = k in
-    omega (arith, k.entities_into-k.auto.words, k.entities_into-k.ensures.0, s.requires.1, standing-few s.args.rows.now s.args.n s.args.c)
+pub slice_bounds-words-end : goal.slice_bounds-words-end
+slice_bounds-words-end c = omega (arith, c.entities_into-k.auto.words, c.entities_into-k.ensures.0, c.requires.1, standing-few c.args.rows.now c.args.n c.args.c)
 
-first : (k : lts.After-entities_into tie.the-claims reads.Pre reads.Post) → let s = k in
-    take k.entities_into-k.result k.entities_into-k.new.words ≡ standing_in (entities_in s.args.n s.args.rows.now) s.args.c
-first k =
-    let s = k in
-    (λ i. take (k.entities_into-k.ensures.0 i) (k.entities_into-k.ensures.1 i)) ∙ over-take (replicate most_entities 0) (standing_in (entities_in s.args.n s.args.rows.now) s.args.c)
-
-pub give-requires : goal.give-requires
-give-requires c = long c.before.before.before.before
+pub slice_bounds-give-end : goal.slice_bounds-give-end
+slice_bounds-give-end c =
+    let h : c.entities_into-k.result ≤ length c.entities_into-k.new.words = omega (arith, c.entities_into-k.auto.words, c.entities_into-k.ensures.0, c.requires.1, standing-few c.args.rows.now c.args.n c.args.c) in
+    sym (length-take-le c.entities_into-k.result c.entities_into-k.new.words h)
 
 pub returns : goal.returns
 returns c =
-    let k = c.before.before.before.before.before.before.before in
-    let s = k in
-    let n = k.entities_into-k.result in
-    let w = k.entities_into-k.new.words in
-    let e = k.entities_into-k.ensures.0 in
+    let h : c.entities_into-k.result ≤ length c.entities_into-k.new.words = omega (arith, c.entities_into-k.auto.words, c.entities_into-k.ensures.0, c.requires.1, standing-few c.args.rows.now c.args.n c.args.c) in
+    let n = c.entities_into-k.result in
+    let e = c.entities_into-k.ensures in
+    let stand = standing_in (entities_in c.args.n c.args.rows.now) c.args.c in
     c.give.ensures
-    ∙ numbers-listed (not (eqb n 0)) n n w (any_of (standing_in (entities_in s.args.n s.args.rows.now) s.args.c)) s.args.answer.now
-    (ap (λ (m : ℕ). not (eqb m 0)) e) (first k) (long k) refl
+    ∙ numbers-listed (not (eqb n 0)) n n c.entities_into-k.new.words (any_of stand) c.args.answer.now
+    (ap (λ (m : ℕ). not (eqb m 0)) e.0) ((λ i. take (e.0 i) (e.1 i)) ∙ over-take (replicate most_entities 0) stand) h refl

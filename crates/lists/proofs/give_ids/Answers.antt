@@ -1,10 +1,8 @@
 -- The keys of the rows are the ids.
--- The words have space for the keys.
--- They begin with the keys.
 use Prim.Native.Nat.{◌≤◌}
 use native.Mathlib.Omega.{arith}
 use mathlib.Core.Bool.{true}
-use mathlib.Core.Path.{◌≡◌, refl, sym, ◌∙◌}
+use mathlib.Core.Path.{refl, sym, ◌∙◌}
 use lib.ListN.{length, take, replicate}
 use Rattle.model.specs.Lists.{keys}
 use Rattle.table.specs.Rows.{number, table1}
@@ -16,26 +14,12 @@ use Rattle.lists.proofs.Laws.Scans.{over-take}
 use Rattle.lists.proofs.Laws.Gives.{numbers-listed, group-keys}
 use Rattle.lists.specs.Told.{there}
 use Rattle.lists.proofs.give_ids.Goals as goal
-use Rattle.lists.proofs.give_ids.Lts as lts
-use Rattle.lists.proofs.give_ids.Tie as tie
-use Rattle.lists.proofs.give_ids.Reads as reads
-
-long : (k : lts.After-keys_into tie.the-claims reads.Pre reads.Post) → k.args.n ≤ length k.keys_into.new.words
-long k = omega (arith, k.keys_into.auto.words, k.requires.1)
-
-keys-first : (k : lts.After-keys_into tie.the-claims reads.Pre reads.Post) → let s = k in
-    take s.args.n k.keys_into.new.words ≡ keys (groups_in s.args.n s.args.rows.now)
-keys-first k =
-    let s = k in
-    let l = keys (table1 group_width s.args.n s.args.rows.now) in
-    (λ i. take (sym (keys_length number group_width s.args.n s.args.rows.now) i) (k.keys_into.ensures i))
-    ∙ over-take (replicate most_cells 0) l
-    ∙ group-keys s.args.n s.args.rows.now
 
 pub returns : goal.returns
 returns c =
-    let k = c.before.before.before.before.before.before.before in
-    let s = k in
+    let n = c.args.n in
+    let rows = c.args.rows.now in
+    let long : n ≤ length c.keys_into.new.words = omega (arith, c.keys_into.auto.words, c.requires.1) in
     c.give.ensures
-    ∙ numbers-listed true s.args.n s.args.n k.keys_into.new.words (there (keys (groups_in s.args.n s.args.rows.now))) s.args.answer.now refl
-    (keys-first k) (long k) refl
+    ∙ numbers-listed true n n c.keys_into.new.words (there (keys (groups_in n rows))) c.args.answer.now refl
+    ((λ i. take (sym (keys_length number group_width n rows) i) (c.keys_into.ensures i)) ∙ over-take (replicate most_cells 0) (keys (table1 group_width n rows)) ∙ group-keys n rows) long refl

@@ -7,7 +7,4 @@ use Prim.Native.Nat.{◌+◌, ◌-◌, ◌≤◌}
 use Rattle.little_endian.proofs.put_number.Given as goal
 
 abbrev pub invariant-loop-i : goal.invariant-loop-i
-invariant-loop-i l = (l.i ≤ l.k) × (l.at + l.k ≤ length l.initial.out) × (length l.out ≡ length l.initial.out) × (l.out ≡ paste l.initial.out l.at (bytes l.k l.n) l.i) × (drop l.i (bytes l.k l.n) ≡ bytes (l.k - l.i) l.left)
-
-abbrev pub decreases-loop-i : goal.decreases-loop-i
-decreases-loop-i l = l.k - l.i
+invariant-loop-i l = (l.at + l.k ≤ length l.initial.out) × (length l.out ≡ length l.initial.out) × (l.out ≡ paste l.initial.out l.at (bytes l.k l.n) l.i) × (drop l.i (bytes l.k l.n) ≡ bytes (l.k - l.i) l.left)

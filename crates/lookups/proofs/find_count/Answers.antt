@@ -1,33 +1,14 @@
 -- The number under the cell is its mask.
--- What stands under the cell is what the table of masks has.
 use Prim.Native.Nat.{ℕ}
 use mathlib.Core.List.{List}
-use mathlib.Core.Path.{◌≡◌, ◌∙◌, sym, ap}
-use mathlib.Core.Option.{Option, some}
-use borrow.Author.Rules.{rules}
+use mathlib.Core.Path.{◌∙◌, sym, ap}
 use Rattle.model.specs.Cells.{Cell, same}
 use Rattle.model.specs.Lists.{get}
 use Rattle.model.specs.Questions.{ones_of}
-use Rattle.layout.specs.Rows.{cells_in}
-use Rattle.told.specs.Told.{done}
-use Rattle.lookups.specs.Laws.Finds.{cells-rows}
-use Rattle.lookups.specs.Told.{under_cell}
-use Rattle.lookups.specs.declared.Under.{Under}
+use Rattle.lookups.specs.Laws.Finds.{cells-rows, count-found}
 use Rattle.lookups.proofs.find_count.Goals as goal
-use Rattle.lookups.proofs.find_count.Lts as lts
-use Rattle.lookups.proofs.find_count.Tie as tie
-use Rattle.lookups.proofs.find_count.Reads as reads
 
-under : (k : lts.After-number_under tie.the-claims reads.Pre reads.Post) (u : Under) → k.number_under-u.result ≡ u
-    → under_cell u ≡ get same (cells_in k.args.n k.args.rows.now) k.args.c
-under k u e =
-    let s = k in
-    ap under_cell (sym e) ∙ k.number_under-u.ensures ∙ ap (λ (t : List (Cell × ℕ)). get same t s.args.c) (sym (cells-rows s.args.n s.args.rows.now))
-
-pub returns-in-Found : goal.returns-in-Found
-returns-in-Found c =
-    ap (λ (m : ℕ). done (some m)) c.count.ensures
-    ∙ ap (λ (o : Option ℕ). done (ones_of o)) (under c.before.before.before _ c.in-Found.is)
-
-pub returns-in-NotFound : goal.returns-in-NotFound
-returns-in-NotFound c = ap (λ (o : Option ℕ). done (ones_of o)) (under c.before.before Under.NotFound c.in-NotFound.is)
+pub returns : goal.returns
+returns c =
+    count-found c.number_under.result c.map.result c.map.ensures.cases
+    ∙ ap ones_of (c.number_under.ensures ∙ ap (λ (t : List (Cell × ℕ)). get same t c.args.c) (sym (cells-rows c.args.n c.args.rows.now)))

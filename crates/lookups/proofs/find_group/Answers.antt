@@ -1,48 +1,26 @@
--- The group stands in the row that is found.
--- The key stands in the row that is found.
--- That row is within the words.
-use Prim.Native.Nat.{◌+◌, ◌*◌, ◌≤◌}
-use mathlib.Core.Path.{◌≡◌, ◌∙◌, sym, ap}
-use mathlib.Core.Option.{Option, some}
-use lib.Dec.{ltb}
-use lib.ListN.{length}
+-- The group is that of the row that is found.
+use mathlib.Core.Path.{◌∙◌, sym, ap}
+use mathlib.Core.Option.{some}
 use borrow.Author.Rules.{rules}
-use Rattle.model.specs.Groups.{Group}
-use Rattle.model.specs.Lists.{keys}
-use Rattle.layout.specs.Widths.{group_width}
-use Rattle.table.specs.Rows.{place_of, table1}
-use Rattle.table.specs.declared.Place.TheVariants.{Found}
-use Rattle.told.specs.Told.{done, seen}
-use Rattle.lookups.specs.Laws.Finds.{group-inside, group-found, group-missing}
-use Rattle.lookups.specs.Told.{shown_of}
+use Rattle.told.specs.Told.{maybe, seen}
 use Rattle.lookups.specs.declared.Shown.{Shown}
+use Rattle.lookups.specs.Told.{shown_of}
+use Rattle.lookups.specs.Laws.Finds.{row-found, row-missing, group-inside, group-found, group-missing}
 use Rattle.lookups.proofs.find_group.Goals as goal
-use Rattle.lookups.proofs.find_group.Lts as lts
-use Rattle.lookups.proofs.find_group.Tie as tie
-use Rattle.lookups.proofs.find_group.Reads as reads
 
-at : (k : lts.Past-After-known_told tie.the-claims reads.Pre reads.Post) → let s = k in
-    Found k.in-Found.i ≡ place_of ltb (keys (table1 group_width s.args.n s.args.rows.now)) s.args.id
-at k = sym k.in-Found.is ∙ k.find1-p.ensures
-
-inside : (k : lts.Past-After-known_told tie.the-claims reads.Pre reads.Post) → let s = k in
-    group_width * k.in-Found.i + group_width ≤ length s.args.rows.now
-inside k = let s = k in group-inside s.args.n s.args.rows.now s.args.id k.in-Found.i s.requires (at k)
+pub returns-in_err-i : goal.returns-in_err-i
+returns-in_err-i c =
+    let m = row-missing c.find.result c.ok.result c.ok.ensures.value c.in_err-i.was in
+    ap maybe c.from_residual.ensures
+    ∙ ap (seen shown_of) (sym (group-missing c.args.n c.args.rows.now c.args.id m.0 c.requires (m.1 ∙ c.find.ensures)))
 
 pub overflow_mul-i : goal.overflow_mul-i
-overflow_mul-i c = let f = inside c.before in search rules
+overflow_mul-i c = let f = group-inside c.args.n c.args.rows.now c.args.id c.in_ok-i.i c.requires (row-found c.find.result c.ok.result c.in_ok-i.i c.ok.ensures.value c.in_ok-i.was ∙ c.find.ensures) in search rules
 
 pub shown_at-requires : goal.shown_at-requires
-shown_at-requires c = inside c.before
+shown_at-requires c = group-inside c.args.n c.args.rows.now c.args.id c.in_ok-i.i c.requires (row-found c.find.result c.ok.result c.in_ok-i.i c.ok.ensures.value c.in_ok-i.was ∙ c.find.ensures)
 
-pub returns-in-Found : goal.returns-in-Found
-returns-in-Found c =
-    let k = c.before.before in
-    let s = k in
-    ap (λ (g : Shown). done (some g)) c.shown_at.ensures
-    ∙ ap (λ (o : Option Group). done (seen shown_of o)) (sym (group-found s.args.n s.args.rows.now s.args.id k.in-Found.i s.requires (at k)))
-
-pub returns-in-Missing : goal.returns-in-Missing
-returns-in-Missing c =
-    let s = c in
-    ap (λ (o : Option Group). done (seen shown_of o)) (sym (group-missing s.args.n s.args.rows.now s.args.id c.in-Missing.field-0 s.requires (sym c.in-Missing.is ∙ c.find1-p.ensures)))
+pub returns : goal.returns
+returns c =
+    ap (λ (g : Shown). some g) c.shown_at.ensures
+    ∙ ap (seen shown_of) (sym (group-found c.args.n c.args.rows.now c.args.id c.in_ok-i.i c.requires (row-found c.find.result c.ok.result c.in_ok-i.i c.ok.ensures.value c.in_ok-i.was ∙ c.find.ensures)))

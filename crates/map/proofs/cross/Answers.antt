@@ -7,18 +7,10 @@ use mathlib.Core.Path.{sym, ◌∙◌}
 use Rattle.map.proofs.cross.Goals as goal
 
 pub returns-then-contains : goal.returns-then-contains
-returns-then-contains c =
-    let s = c in
-    cross-leaves s.args.n s.args.m s.args.from.now s.args.to.now s.args.c s.requires.0 s.requires.1 (sym c.if-contains.true ∙ c.contains.ensures)
-    c.remove4-k.result c.remove4-k.new.s c.remove4-k.ensures
+returns-then-contains c = cross-leaves _ _ _ _ _ c.requires.0 c.requires.1 (sym c.if-contains.true ∙ c.contains.ensures) _ _ c.remove-k.ensures
 
-pub put4-k-requires : goal.put4-k-requires
-put4-k-requires c =
-    let s = c in
-    (s.requires.1, room-space cell net_width s.args.m s.args.to.now s.args.c s.requires.2)
+pub put-k-requires : goal.put-k-requires
+put-k-requires c = (c.requires.1, room-space cell net_width c.args.m c.args.to.now c.args.c c.requires.2)
 
 pub returns : goal.returns
-returns c =
-    let s = c in
-    cross-joins s.args.n s.args.m s.args.from.now s.args.to.now s.args.c s.requires.0 s.requires.1 (sym c.if-contains.false ∙ c.contains.ensures)
-    c.put4-k.result c.put4-k.new.s c.put4-k.ensures
+returns c = cross-joins _ _ _ _ _ c.requires.0 c.requires.1 (sym c.if-contains.false ∙ c.contains.ensures) _ _ c.put-k.ensures

@@ -7,11 +7,7 @@ use Rattle.layout.specs.Rows.{id_row, entities_in}
 use Rattle.model.specs.Lists.{each}
 use lib.ListN.{length}
 use mathlib.Core.Path.{◌≡◌}
-use Prim.Native.Nat.{◌-◌, ◌≤◌}
 use Rattle.map.proofs.crowd_of.Given as goal
 
 abbrev pub invariant-loop-i : goal.invariant-loop-i
-invariant-loop-i l = (l.i ≤ l.n) × (length l.crowd ≡ length l.initial.crowd) × (TableIs cell crowd_width l.m l.crowd (each id_row (tally (entities_in l.i l.ents))))
-
-abbrev pub decreases-loop-i : goal.decreases-loop-i
-decreases-loop-i l = l.n - l.i
+invariant-loop-i l = (length l.crowd ≡ length l.initial.crowd) × (TableIs cell crowd_width l.m l.crowd (each id_row (tally (entities_in l.i l.ents))))

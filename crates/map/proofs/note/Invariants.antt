@@ -5,11 +5,7 @@ use Rattle.table.specs.Rows.{table4}
 use Rattle.layout.specs.Rows.{neighbour_of}
 use Rattle.model.specs.Lists.{keys}
 use mathlib.Core.Path.{◌≡◌}
-use Prim.Native.Nat.{◌-◌, ◌≤◌}
 use Rattle.map.proofs.note.Given as goal
 
 abbrev pub invariant-loop-k : goal.invariant-loop-k
-invariant-loop-k l = (l.k ≤ 26) × (l.mask ≡ noted (of_kind l.kind) (keys (table4 cell_width l.m l.cells)) (neighbour_of l.c) l.k)
-
-abbrev pub decreases-loop-k : goal.decreases-loop-k
-decreases-loop-k l = 26 - l.k
+invariant-loop-k l = (l.mask ≡ noted (of_kind l.kind) (keys (table4 cell_width l.m l.cells)) (neighbour_of l.c) l.k)

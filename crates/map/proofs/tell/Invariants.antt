@@ -6,11 +6,7 @@ use Rattle.layout.specs.Rows.{neighbour_of}
 use Rattle.model.specs.Lists.{change}
 use lib.ListN.{length}
 use mathlib.Core.Path.{◌≡◌}
-use Prim.Native.Nat.{◌-◌, ◌≤◌}
 use Rattle.map.proofs.tell.Given as goal
 
 abbrev pub invariant-loop-k : goal.invariant-loop-k
-invariant-loop-k l = (l.k ≤ 26) × (length l.cells ≡ length l.initial.cells) × (TableIs cell cell_width l.m l.cells (change (told (of_kind l.kind) l.joins (neighbour_of l.c) l.k) (table4 cell_width l.m l.initial.cells)))
-
-abbrev pub decreases-loop-k : goal.decreases-loop-k
-decreases-loop-k l = 26 - l.k
+invariant-loop-k l = (length l.cells ≡ length l.initial.cells) × (TableIs cell cell_width l.m l.cells (change (told (of_kind l.kind) l.joins (neighbour_of l.c) l.k) (table4 cell_width l.m l.initial.cells)))

@@ -8,7 +8,7 @@ use Rattle.layout.specs.Widths.{cell_width}
 use Rattle.masks_check.proofs.mask_of.Goals as goal
 
 pub returns-then-has_room : goal.returns-then-has_room
-returns-then-has_room c = let s = c in c.note.ensures ∙ noted-mask s.args.kind s.args.c (sym c.has_room.ensures ∙ c.if-has_room.true) (keys (table4 cell_width s.args.m s.args.cells.now))
+returns-then-has_room c = let a = c.args in c.note.ensures ∙ noted-mask a.kind a.c (sym c.has_room.ensures ∙ c.if-has_room.true) (keys (table4 cell_width a.m a.cells.now))
 
 pub scanned-requires : goal.scanned-requires
-scanned-requires c = let s = c in (table-facts cell cell_width s.args.m s.args.cells.now s.requires).fits
+scanned-requires c = (table-facts cell cell_width c.args.m c.args.cells.now c.requires).fits

@@ -1,5 +1,4 @@
 -- After i rows the mask tells of the first i cells.
-use Prim.Native.Nat.{◌-◌, ◌≤◌}
 use mathlib.Core.Path.{◌≡◌}
 use lib.ListN.{take}
 use Rattle.model.specs.Lists.{keys}
@@ -10,7 +9,4 @@ use Rattle.layout.specs.Widths.{cell_width}
 use Rattle.masks_check.proofs.scanned.Given as goal
 
 abbrev pub invariant-loop-i : goal.invariant-loop-i
-invariant-loop-i l = (l.i ≤ l.m) × (l.bits ≡ mask_of (touch_at l.kind) (take l.i (keys (table4 cell_width l.m l.cells))) l.c)
-
-abbrev pub decreases-loop-i : goal.decreases-loop-i
-decreases-loop-i l = l.m - l.i
+invariant-loop-i l = l.bits ≡ mask_of (touch_at l.kind) (take l.i (keys (table4 cell_width l.m l.cells))) l.c

@@ -1,5 +1,5 @@
 -- What holds on the way to an answer.
-use Rattle.std.specs.Prelude.{◌≡◌, ℕ, ◌%◌, Bool, true, false, cond, ◌&&◌, T, ◌==◌, unsigned_abs, Float}
+use Rattle.std.specs.Prelude.{◌≡◌, ℕ, ◌%◌, Bool, true, false, cond, ◌&&◌, T, ◌==◌, unsigned_abs, Float, Option}
 use Rattle.std.proofs.Common.{sym, ◌∙◌}
 use Rattle.std.proofs.Math.Path.{ap}
 use Rattle.std.proofs.lemmas.Bool.{false≢true}
@@ -7,7 +7,7 @@ use Rattle.std.specs.Float.{nan, inf, fin}
 use Rattle.std.specs.Float.Ieee.Scale.{finite}
 use Rattle.component.specs.Coord.{first_bad}
 use Rattle.component.specs.Laws.Tests.{both}
-use Rattle.refusal.specs.declared.Refusal.{Refusal}
+use Rattle.refusal.specs.Forms.{Refused as Fault}
 use Rattle.refusal.specs.Forms.{placed}
 use Rattle.exact.specs.Units.{metre, exact}
 use Rattle.exact.specs.Laws.Tests.{true-T}
@@ -15,11 +15,10 @@ use Rattle.metres.specs.Place.{near, edge_ok, origin_ok, frame_ok, margin_ok, pl
 use Rattle.metres.specs.Answer.{frame_fault, place_fault, placing, event_at, placed_at, made, answer}
 use Rattle.metres.specs.declared.Frame.{Frame}
 use Rattle.metres.specs.declared.Spot.{Spot}
-use Rattle.metres.specs.declared.Margin.{Margin}
 use Rattle.metres.specs.declared.Report.{Report}
 use Rattle.metres.specs.declared.Placing.{Placing}
-use Rattle.metres.specs.declared.Answer.{Answer}
-use Rattle.metres.specs.declared.Answer.TheVariants.{Event, Refused}
+use Rattle.metres.specs.Answer.{Answer}
+use Rattle.metres.specs.Answer.{Event, Refused}
 
 -- One side of a choice, by its test.
 pub chosen : {A : Type 0} (t : Bool) (a b : A) → t ≡ true → a ≡ cond t a b
@@ -107,13 +106,13 @@ module _ (f : Frame) (x y z : Float) where
   place-by-axis n h e = ap (placed 10 0) e ∙ other (axes_ok f x y z) _ _ h
 
 -- ---- an event, or 10
-module _ (f : Frame) (x y z : Float) (margin : Margin) (entity grid : ℕ) where
+module _ (f : Frame) (x y z : Float) (margin : Option Float) (entity grid : ℕ) where
   pub event-is : (a b c : Spot) → a ≡ spot_of (place_of x f.x) f.edge → b ≡ spot_of (place_of y f.y) f.edge → c ≡ spot_of (place_of z f.z) f.edge
       → placing a b c margin entity grid ≡ event_at f x y z margin entity grid
   unfolding event_at
   event-is a b c p q r = λ i. placing (p i) (q i) (r i) margin entity grid
 
-  pub placed_off : (r : Refusal) → (axes_ok f x y z && margin_ok margin) ≡ false → r ≡ place_fault f x y z → Refused r ≡ placed_at f x y z margin entity grid
+  pub placed_off : (r : Fault) → (axes_ok f x y z && margin_ok margin) ≡ false → r ≡ place_fault f x y z → Refused r ≡ placed_at f x y z margin entity grid
   unfolding placed_at
   placed_off r h e = ap Refused e ∙ other (axes_ok f x y z && margin_ok margin) _ _ h
 
@@ -123,7 +122,7 @@ module _ (f : Frame) (x y z : Float) (margin : Margin) (entity grid : ℕ) where
 
 -- ---- a report
 module _ (f : Frame) (r : Report) (entity grid : ℕ) where
-  pub answer-11 : (a : Refusal) → frame_ok f ≡ false → a ≡ frame_fault f → Refused a ≡ answer f r entity grid
+  pub answer-11 : (a : Fault) → frame_ok f ≡ false → a ≡ frame_fault f → Refused a ≡ answer f r entity grid
   unfolding answer
   answer-11 a h e = ap Refused e ∙ other (frame_ok f) _ _ h
 

@@ -1,5 +1,5 @@
 -- The number of each answer, and which way a report takes.
-use Rattle.std.specs.Prelude.{◌≡◌, ℕ, Bool, true, false, cond, ◌&&◌, Float}
+use Rattle.std.specs.Prelude.{◌≡◌, ℕ, Bool, true, false, cond, ◌&&◌, Float, Option, None, Some}
 use Rattle.std.proofs.Math.Path.{refl, sym, ap}
 use Rattle.std.proofs.Common.{◌∙◌}
 use Rattle.std.proofs.Math.Bool.{and-true}
@@ -12,9 +12,7 @@ use Rattle.metres.proofs.Laws.Answer.{chosen, other}
 use Rattle.metres.specs.declared.Frame.{Frame}
 use Rattle.metres.specs.declared.Report.{Report}
 use Rattle.metres.specs.declared.Report.TheVariants.{Fix, Reckoned, Nothing}
-use Rattle.metres.specs.declared.Margin.{Margin}
-use Rattle.metres.specs.declared.Margin.TheVariants.{Unsaid, Within}
-use Rattle.metres.specs.declared.Answer.TheVariants.{Event, Refused}
+use Rattle.metres.specs.Answer.{Event, Refused}
 
 frame-number : (f : Frame) → (frame_fault f).number ≡ 11
 unfolding frame_fault
@@ -33,7 +31,7 @@ place-number f x y z = go (axes_ok f x y z)
     go false = refl
 
 module _ (f : Frame) (entity grid : ℕ) where
-  placed-number : (x y z : Float) (margin : Margin) → number_of (placed_at f x y z margin entity grid) ≡ cond (axes_ok f x y z && margin_ok margin) 0 10
+  placed-number : (x y z : Float) (margin : Option Float) → number_of (placed_at f x y z margin entity grid) ≡ cond (axes_ok f x y z && margin_ok margin) 0 10
   unfolding placed_at
   placed-number x y z margin = go (axes_ok f x y z && margin_ok margin)
     where
@@ -43,8 +41,8 @@ module _ (f : Frame) (entity grid : ℕ) where
 
   made-number : (r : Report) → number_of (made f r entity grid) ≡ cond (report_ok f r) 0 10
   unfolding made
-  made-number (Fix x y z) = placed-number x y z Unsaid ∙ ap (λ (t : Bool). cond t 0 10) (and-true (axes_ok f x y z))
-  made-number (Reckoned x y z err) = placed-number x y z (Within err)
+  made-number (Fix x y z) = placed-number x y z None ∙ ap (λ (t : Bool). cond t 0 10) (and-true (axes_ok f x y z))
+  made-number (Reckoned x y z err) = placed-number x y z (Some err)
   made-number Nothing = refl
 
   pub answer-number : (r : Report) → number_of (answer f r entity grid) ≡ cond (frame_ok f) (cond (report_ok f r) 0 10) 11
@@ -64,14 +62,14 @@ module _ (f : Frame) (entity grid : ℕ) where
     unfolding answer
     frame_on r = sym (chosen (frame_ok f) _ _ v)
 
-    module _ (x y z : Float) (margin : Margin) where
+    module _ (x y z : Float) (margin : Option Float) where
       pub made_at : answer f (report_at x y z margin) entity grid ≡ placed_at f x y z margin entity grid
       unfolding made
       made_at = frame_on (report_at x y z margin) ∙ go margin
         where
-          go : (m : Margin) → made f (report_at x y z m) entity grid ≡ placed_at f x y z m entity grid
-          go Unsaid = refl
-          go (Within err) = refl
+          go : (m : Option Float) → made f (report_at x y z m) entity grid ≡ placed_at f x y z m entity grid
+          go None = refl
+          go (Some err) = refl
 
       pub place-off : (axes_ok f x y z && margin_ok margin) ≡ false → answer f (report_at x y z margin) entity grid ≡ Refused (place_fault f x y z)
       unfolding placed_at

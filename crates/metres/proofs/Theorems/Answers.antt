@@ -1,22 +1,38 @@
 -- What R-4 says of refusals: which number is given exactly when, and where the fault is; and that no other answer is allowed.
-use Rattle.std.specs.Prelude.{◌≡◌, ℕ, Bool, true, false, cond, ◌&&◌, refl, Float}
-use Rattle.std.proofs.Common.{sym, ◌∙◌, subst}
+use Rattle.std.specs.Prelude.{◌≡◌, ℕ, Bool, true, false, cond, ◌&&◌, refl, Float, Option, None, Some, Result, Ok, Err}
+use Rattle.std.proofs.Common.{sym, ap, ◌∙◌, subst}
 use Rattle.component.specs.Coord.{first_bad}
+use Rattle.refusal.specs.declared.Refusal.{Refusal}
 use Rattle.refusal.specs.Forms.{placed}
+use Rattle.refusal.proofs.Theorems.{refusal_back, form-back}
 use Rattle.metres.specs.Place.{edge_ok, origin_ok, frame_ok, margin_ok, axis_ok, axes_ok}
-use Rattle.metres.specs.Answer.{frame_fault, place_fault, report_ok, event_at, placed_at, made, answer}
+use Rattle.metres.specs.Answer.{frame_fault, place_fault, report_ok, event_at, placed_at, made, answer, Answer, Event, NoEvent, Refused, answer_told}
 use Rattle.metres.specs.Numbers.{number_of, report_at, Exactly}
 use Rattle.metres.proofs.Laws.Told.{answer-number, frame_off, frame_on, made_at, place-off}
 use Rattle.metres.specs.declared.Frame.{Frame}
 use Rattle.metres.specs.declared.Report.{Report}
 use Rattle.metres.specs.declared.Report.TheVariants.{Nothing}
-use Rattle.metres.specs.declared.Margin.{Margin}
-use Rattle.metres.specs.declared.Answer.{Answer}
-use Rattle.metres.specs.declared.Answer.TheVariants.{Event, NoEvent, Refused}
+use Rattle.metres.specs.declared.Placing.{Placing}
+
+-- The way back from an answer to what gives it.
+answer_back : Answer → Result (Option Placing) Refusal
+answer_back (Event e) = Ok (Some e)
+answer_back NoEvent = Ok None
+answer_back (Refused f) = Err (refusal_back f)
+
+answer-back : (a : Result (Option Placing) Refusal) → answer_back (answer_told a) ≡ a
+unfolding answer_back
+answer-back (Ok (Some e)) = refl
+answer-back (Ok None) = refl
+answer-back (Err r) = ap Err (form-back r)
+
+-- What gives the same answer is the same.
+pub answer-told-one : (a b : Result (Option Placing) Refusal) → answer_told a ≡ answer_told b → a ≡ b
+answer-told-one a b e = sym (answer-back a) ∙ (ap answer_back e ∙ answer-back b)
 
 -- Any two answers that the promise of `event_of` allows are equal.
-pub one_answer : (f : Frame) (r : Report) (entity grid : ℕ) (a b : Answer) → a ≡ answer f r entity grid → b ≡ answer f r entity grid → a ≡ b
-one_answer f r entity grid a b p q = p ∙ sym q
+pub one_answer : (f : Frame) (r : Report) (entity grid : ℕ) (a b : Result (Option Placing) Refusal) → answer_told a ≡ answer f r entity grid → answer_told b ≡ answer f r entity grid → a ≡ b
+one_answer f r entity grid a b p q = answer-told-one a b (p ∙ sym q)
 
 -- ---- the numbers
 module _ (f : Frame) (entity grid : ℕ) where
@@ -52,7 +68,7 @@ module _ (f : Frame) (entity grid : ℕ) where
     unfolding made
     nothing-makes-none = frame_on f entity grid v Nothing
 
-    module _ (x y z : Float) (margin : Margin) where
+    module _ (x y z : Float) (margin : Option Float) where
       pub ten-x : axis_ok x f.x ≡ false → answer f (report_at x y z margin) entity grid ≡ Refused (placed 10 0 0)
       unfolding place_fault
       ten-x h = place-off f entity grid v x y z margin (λ i. (h i && (axis_ok y f.y && axis_ok z f.z)) && margin_ok margin) ∙ (λ i. Refused (cond (h i && (axis_ok y f.y && axis_ok z f.z)) (placed 10 1 0) (placed 10 0 (first_bad (h i) (axis_ok y f.y)))))

@@ -1,12 +1,12 @@
 -- What R-4 says of an event: whose it is, and that its cell is in the scope's range.
-use Rattle.std.specs.Prelude.{◌≡◌, ℕ, Bool, true, false, cond, ◌&&◌, T, ◌≢◌, Float}
+use Rattle.std.specs.Prelude.{◌≡◌, ℕ, Bool, true, false, cond, ◌&&◌, T, ◌≢◌, Float, Option, None, Some}
 use Rattle.std.proofs.Math.Path.{refl, subst}
 use Rattle.std.proofs.Common.{arith}
 use Rattle.std.specs.Float.{binary64}
 use Rattle.std.specs.Float.Ieee.{fits}
 use Rattle.component.specs.Coord.{axis_in}
 use Rattle.component.specs.Laws.Tests.{both}
-use Rattle.refusal.specs.declared.Refusal.{Refusal}
+use Rattle.refusal.specs.Forms.{Refused as Fault}
 use Rattle.metres.specs.Place.{frame_ok, margin_ok, place_of, axis_ok, axes_ok, cell_of, spot_of}
 use Rattle.metres.specs.Answer.{frame_fault, place_fault, event_at, placed_at, made, answer}
 use Rattle.metres.specs.Numbers.{margin_of, Sound}
@@ -15,17 +15,15 @@ use Rattle.metres.proofs.Theorems.Cells.{cell-in-range}
 use Rattle.metres.specs.declared.Frame.{Frame}
 use Rattle.metres.specs.declared.Report.{Report}
 use Rattle.metres.specs.declared.Report.TheVariants.{Fix, Reckoned, Nothing}
-use Rattle.metres.specs.declared.Margin.{Margin}
-use Rattle.metres.specs.declared.Margin.TheVariants.{Unsaid, Within}
 use Rattle.metres.specs.declared.Placing.{Placing}
-use Rattle.metres.specs.declared.Answer.TheVariants.{Event, NoEvent, Refused}
+use Rattle.metres.specs.Answer.{Event, NoEvent, Refused}
 
 -- A frame whose edge is a 64-bit float, as every `f64` is.
 module _ (f : Frame) (t : T (fits binary64 f.edge)) (entity grid : ℕ) where
   axis-in : (v : frame_ok f ≡ true) (x o : Float) → axis_ok x o ≡ true → axis_in (cell_of (place_of x o) f.edge) ≡ true
   axis-in v x o h = cell-in-range (place_of x o) f.edge (record { fits = t; named = frame-edge f v }) (axis-near x o h)
 
-  at-sound : (v : frame_ok f ≡ true) (x y z : Float) (margin : Margin) → axes_ok f x y z ≡ true → Sound entity grid margin (event_at f x y z margin entity grid)
+  at-sound : (v : frame_ok f ≡ true) (x y z : Float) (margin : Option Float) → axes_ok f x y z ≡ true → Sound entity grid margin (event_at f x y z margin entity grid)
   unfolding event_at spot_of
   at-sound v x y z margin h =
       let ix = axis-in v x f.x (x-ok f x y z h) in
@@ -33,7 +31,7 @@ module _ (f : Frame) (t : T (fits binary64 f.edge)) (entity grid : ℕ) where
       let iz = axis-in v z f.z (z-ok f x y z h) in
       record { named = refl; there = refl; carried = refl; within = λ i. ix i && (iy i && iz i) }
 
-  no-event : (r : Refusal) (e : Placing) → Refused r ≢ Event e
+  no-event : (r : Fault) (e : Placing) → Refused r ≢ Event e
   no-event r e q = let z : ◌≡◌ {A = ℕ} 0 1 = cc in no z
     where
       no : ◌≡◌ {A = ℕ} 0 1 → ⊥
@@ -45,7 +43,7 @@ module _ (f : Frame) (t : T (fits binary64 f.edge)) (entity grid : ℕ) where
       no : ◌≡◌ {A = ℕ} 0 1 → ⊥
       no z = omega arith
 
-  placed-sound : (v : frame_ok f ≡ true) (x y z : Float) (margin : Margin) (e : Placing) → placed_at f x y z margin entity grid ≡ Event e → Sound entity grid margin e
+  placed-sound : (v : frame_ok f ≡ true) (x y z : Float) (margin : Option Float) (e : Placing) → placed_at f x y z margin entity grid ≡ Event e → Sound entity grid margin e
   unfolding placed_at
   placed-sound v x y z margin e = go (axes_ok f x y z && margin_ok margin) refl
     where
@@ -55,8 +53,8 @@ module _ (f : Frame) (t : T (fits binary64 f.edge)) (entity grid : ℕ) where
 
   made-sound : (v : frame_ok f ≡ true) (r : Report) (e : Placing) → made f r entity grid ≡ Event e → Sound entity grid (margin_of r) e
   unfolding made
-  made-sound v (Fix x y z) e q = placed-sound v x y z Unsaid e q
-  made-sound v (Reckoned x y z err) e q = placed-sound v x y z (Within err) e q
+  made-sound v (Fix x y z) e q = placed-sound v x y z None e q
+  made-sound v (Reckoned x y z err) e q = placed-sound v x y z (Some err) e q
   made-sound v Nothing e q = absurd (none-event e q)
 
   pub event-sound : (r : Report) (e : Placing) → answer f r entity grid ≡ Event e → Sound entity grid (margin_of r) e

@@ -4,10 +4,8 @@ use Rattle.metres.specs.Place.{near}
 use Rattle.metres.proofs.Laws.Answer.{axis-off, axis-on}
 use Rattle.metres.proofs.axis_ok.Goals as goal
 
-pub returns-then-not-is_finite : goal.returns-then-not-is_finite
-returns-then-not-is_finite c = axis-off c.args.x c.args.o (sym c.is_finite.ensures ∙ c.if-not-is_finite.true)
+pub returns-then-is_finite : goal.returns-then-is_finite
+returns-then-is_finite c = c.is_near.ensures ∙ ap near c.less.ensures ∙ axis-on c.args.x c.args.o (sym c.is_finite.ensures ∙ c.if-is_finite.true)
 
-pub returns : goal.returns
-returns c =
-    c.is_near.ensures ∙ ap near c.less.ensures
-    ∙ axis-on c.args.x c.args.o (sym c.is_finite.ensures ∙ c.if-not-is_finite.false)
+pub returns-else-is_finite : goal.returns-else-is_finite
+returns-else-is_finite c = c.if-is_finite.false ∙ axis-off c.args.x c.args.o (sym c.is_finite.ensures ∙ c.if-is_finite.false)

@@ -7,14 +7,11 @@ use Rattle.metres.proofs.origin_ok.Goals as goal
 pub returns-then-not-is_near : goal.returns-then-not-is_near
 returns-then-not-is_near c = origin-far c.args.x (sym c.is_near.ensures ∙ c.if-not-is_near.true)
 
-pub whole-requires : goal.whole-requires
-whole-requires c = near-known c.args.x c.requires (sym c.is_near.ensures ∙ c.if-not-is_near.false)
+pub invariant_of-place : goal.invariant_of-place
+invariant_of-place c = record { near = near-known c.args.x c.requires (sym c.is_near.ensures ∙ c.if-not-is_near.false) }
 
-pub is_past-requires-clause-fact_1 : goal.is_past-requires-clause-fact_1
-is_past-requires-clause-fact_1 c = near-known c.args.x c.requires (sym c.is_near.ensures ∙ c.if-not-is_near.false)
-
-pub is_past-requires-clause-fact_2 : goal.is_past-requires-clause-fact_2
-is_past-requires-clause-fact_2 c =
+pub is_past-requires : goal.is_past-requires
+is_past-requires c =
     let k = near-known c.args.x c.requires (sym c.is_near.ensures ∙ c.if-not-is_near.false) in
     subst (λ n. n ≤ 1048576) (sym c.whole.ensures) (whole-few c.args.x k)
 

@@ -6,8 +6,7 @@ use Rattle.std.proofs.Math.Bool.{cond}
 use mathlib.Core.List.{List, [], ◌∷◌, ◌++◌}
 use Rattle.std.proofs.Math.Seq.{drop-append_seam}
 use Rattle.component.specs.Coord.{coord_in_range}
-use Rattle.refusal.specs.declared.Refusal.{Refusal}
-use Rattle.refusal.specs.Forms.{none, too_short}
+use Rattle.refusal.specs.Forms.{Refused, none, too_short}
 use Rattle.component.specs.Stored.{stored_word, signed_word, stored}
 use Rattle.component.specs.Laws.Range.{in-range-axes, range-of-stored}
 use Rattle.component.specs.Laws.Tests.{both}
@@ -61,12 +60,12 @@ moves-in (e ∷ es) h =
 module _ (s : List ℕ) (at : ℕ) (e : Placing) where
   pub moved-not : leb (at + move_width) (length s) ≡ false → (too_short, s) ≡ moved s at e
   unfolding moved
-  moved-not h = ap (λ (b : Bool). cond {A = Refusal × List ℕ} b (none, over s at (move_words e)) (too_short, s)) (sym h)
+  moved-not h = ap (λ (b : Bool). cond {A = Refused × List ℕ} b (none, over s at (move_words e)) (too_short, s)) (sym h)
 
   pub moved-there : (t words : List ℕ) → leb (at + move_width) (length s) ≡ true → t ≡ over s at words → words ≡ move_words e → (none, t) ≡ moved s at e
   unfolding moved
   moved-there t words h p q =
-      ap (λ (l : List ℕ). (none, l)) (p ∙ ap (over s at) q) ∙ ap (λ (b : Bool). cond {A = Refusal × List ℕ} b (none, over s at (move_words e)) (too_short, s)) (sym h)
+      ap (λ (l : List ℕ). (none, l)) (p ∙ ap (over s at) q) ∙ ap (λ (b : Bool). cond {A = Refused × List ℕ} b (none, over s at (move_words e)) (too_short, s)) (sym h)
 
 -- The words of a cell behind those of an entity.
 pub words-made : (n : ℕ) (d : Cell) → over (n ∷ 0 ∷ 0 ∷ 0 ∷ 0 ∷ []) 1 (answer_words d) ≡ n ∷ answer_words d

@@ -1,9 +1,8 @@
 -- The occupied cells beside a cell, in their order, are its occupied neighbours in order.
-use Rattle.std.specs.Prelude.{ℕ, suc, ◌+◌, ◌-◌, ◌*◌, ◌≤◌, ◌<◌, ◌≡◌, refl, Bool, true, false, ◌&&◌, not, List, [], ◌∷◌, ◌++◌, T, eqb, leb, length, take, get_or}
-use Rattle.std.proofs.Common.{arith, sym, ap, ◌∙◌, subst, append_assoc, eqb→eq, leb→le, le→leb, le-leb}
+use Rattle.std.specs.Prelude.{ℕ, suc, ◌+◌, ◌*◌, ◌≤◌, ◌<◌, ◌≡◌, Bool, true, false, ◌&&◌, not, List, [], ◌∷◌, ◌++◌, T, eqb, leb, length, take, get_or}
+use Rattle.std.proofs.Common.{arith, sym, ap, ◌∙◌, subst, append_assoc, eqb→eq, leb→le, le→leb}
 use Rattle.component.specs.Around.{around, Above, Within}
 use Rattle.component.specs.Laws.Neighbours.{around-ordered, around-length, around-sound, around-complete}
-use Rattle.component.specs.Laws.Tests.{leb-same}
 use Rattle.model.specs.Facts.{Asc, nil, cons}
 use Rattle.model.specs.Lists.{keep, has, keys, gather}
 use Rattle.model.specs.Cells.{Cell, same, below}
@@ -20,24 +19,7 @@ use Rattle.neighbourhood.proofs.Laws.Lines.{mem-get_d}
 use Rattle.neighbourhood.specs.Beside.{are_near, beside}
 use Rattle.neighbourhood.proofs.Laws.Walking.{behind-step, keep-next, keep-past}
 
-and-true : (b : Bool) → b ≡ (b && true)
-and-true true = refl
-and-true false = refl
-
 module _ (r m n : ℕ) where
-  -- By the difference, where the first is not above the second.
-  pub near_up : m ≤ n → leb (n - m) r ≡ are_near r m n
-  near_up h =
-      leb-same (n - m) r n (m + r) (λ p. omega arith) (λ p. omega arith)
-      ∙ (λ i. sym (le-leb m (n + r) (omega arith)) i && leb n (m + r))
-
-  -- By the difference, where it is.
-  pub near_down : n < m → leb (m - n) r ≡ are_near r m n
-  near_down h =
-      leb-same (m - n) r m (n + r) (λ p. omega arith) (λ p. omega arith)
-      ∙ and-true (leb m (n + r))
-      ∙ (λ i. leb m (n + r) && sym (le-leb n (m + r) (omega arith)) i)
-
   near-in : m ≤ n + r → n ≤ m + r → T (are_near r m n)
   near-in p q = and_both (leb m (n + r)) (leb n (m + r)) (le→leb m (n + r) p) (le→leb n (m + r) q)
 

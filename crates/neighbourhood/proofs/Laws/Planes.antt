@@ -12,8 +12,7 @@ use Rattle.model.proofs.Laws.Tests.{and-snd, and_both, or_cases, or_left, or_rig
 use Rattle.model.proofs.Laws.Orders.{Ordered, asym, cells}
 use Rattle.model.proofs.Laws.Members.{keep-no, keep-none}
 use Rattle.model.proofs.Laws.Sorted.{asc-head, asc-tail}
-use Rattle.table.specs.declared.Place.{Place}
-use Rattle.table.specs.declared.Place.TheVariants.{Found, Missing}
+use Rattle.std.specs.Prelude.{Result, Ok, Err}
 use Rattle.table.specs.Rows.{cell, further, placed, place_of, table4, is_table4}
 use Rattle.table.specs.Laws.Images.{table-facts}
 use Rattle.table.specs.Laws.Places.{is_within, place-within}
@@ -23,9 +22,9 @@ use Rattle.neighbourhood.specs.Rows.{row_for}
 use Rattle.neighbourhood.specs.Beside.{beside, plane_start}
 use Rattle.neighbourhood.proofs.Laws.Cubes.{beside-out}
 
-further-placed : (q : Place) → placed (further q) ≡ suc (placed q)
-further-placed (Found i) = refl
-further-placed (Missing i) = refl
+further-placed : (q : Result ℕ ℕ) → placed (further q) ≡ suc (placed q)
+further-placed (Ok i) = refl
+further-placed (Err i) = refl
 
 module _ {K : Type 0} {eq lt : K → K → Bool} (laws : Ordered eq lt) where
   -- The place of a key is behind what is less, and before all else.
@@ -34,10 +33,10 @@ module _ {K : Type 0} {eq lt : K → K → Bool} (laws : Ordered eq lt) where
       ap placed (cond_no (lt key a) _ _ (not_T (lt key a) (asym laws a key t)) ∙ cond_yes (lt a key) _ _ t) ∙ further-placed (place_of lt l key)
 
   placed-stop : (key a : K) (l : List K) → T (not (lt a key)) → placed (place_of lt (a ∷ l) key) ≡ 0
-  placed-stop key a l t = go (lt key a) ∙ ap placed (cond_no (lt a key) (further (place_of lt l key)) (Found 0) t)
+  placed-stop key a l t = go (lt key a) ∙ ap placed (cond_no (lt a key) (further (place_of lt l key)) (Ok 0) t)
     where
-      go : (b : Bool) → placed (cond b (Missing 0) (cond (lt a key) (further (place_of lt l key)) (Found 0))) ≡ placed (cond (lt a key) (further (place_of lt l key)) (Found 0))
-      go true = sym (ap placed (cond_no (lt a key) (further (place_of lt l key)) (Found 0) t))
+      go : (b : Bool) → placed (cond b (Err 0) (cond (lt a key) (further (place_of lt l key)) (Ok 0))) ≡ placed (cond (lt a key) (further (place_of lt l key)) (Ok 0))
+      go true = sym (ap placed (cond_no (lt a key) (further (place_of lt l key)) (Ok 0) t))
       go false = refl
 
   -- A greater key has no lower place.
@@ -85,9 +84,9 @@ module _ (words : List ℕ) (n : ℕ) (ok : is_table4 cell_width n words ≡ tru
   unfolding row_for
   plane-within c = go (place_of below (keys (table4 cell_width n words)) c) (place-within below c (keys (table4 cell_width n words)))
     where
-      go : (q : Place) → T (is_within q (length (keys (table4 cell_width n words)))) → placed q ≤ n
-      go (Found i) t = omega (arith, ltb→lt i (length (keys (table4 cell_width n words))) t, keys_length cell cell_width n words)
-      go (Missing i) t = omega (arith, leb→le i (length (keys (table4 cell_width n words))) t, keys_length cell cell_width n words)
+      go : (q : Result ℕ ℕ) → T (is_within q (length (keys (table4 cell_width n words)))) → placed q ≤ n
+      go (Ok i) t = omega (arith, ltb→lt i (length (keys (table4 cell_width n words))) t, keys_length cell cell_width n words)
+      go (Err i) t = omega (arith, leb→le i (length (keys (table4 cell_width n words))) t, keys_length cell cell_width n words)
 
   module _ (r : ℕ) (c : Cell) where
     -- The first row of the lowest plane is not behind the first behind the highest.

@@ -17,8 +17,7 @@ use Rattle.model.proofs.Laws.Sorted.{is_ascending-in, asc-once}
 use Rattle.model.specs.Places.{offset_at}
 use Rattle.model.proofs.Laws.Slots.{mask-bit}
 use Rattle.model.proofs.Theorems.MasksExact.{mask-cells}
-use Rattle.table.specs.declared.Place.{Place}
-use Rattle.table.specs.declared.Place.TheVariants.{Found, Missing}
+use Rattle.std.specs.Prelude.{Result, Ok, Err}
 use Rattle.table.specs.Rows.{cell, entry_of, rows_of, placed, place_of, table4, is_table4, image4}
 use Rattle.table.specs.Laws.Kinds.{cell-lawful}
 use Rattle.table.specs.Laws.Words.{rest_at, entry_at, cell-at}
@@ -130,11 +129,11 @@ module _ {kind : ℕ} (words : List ℕ) (n : ℕ) (t : List (Cell × ℕ)) (k :
   unfolding row_for
   row-for d m = go (place_of below (keys (table4 cell_width n words)) d) refl
     where
-      go : (p : Place) → p ≡ place_of below (keys (table4 cell_width n words)) d → (placed p < n) × (row_cell words (placed p) ≡ d)
-      go (Found i) e =
+      go : (p : Result ℕ ℕ) → p ≡ place_of below (keys (table4 cell_width n words)) d → (placed p < n) × (row_cell words (placed p) ≡ d)
+      go (Ok i) e =
           let h = found_below cell cell-lawful cell_width n words d i e in
           (h, sym (key-is i h) ∙ ap (λ (l : List Cell). get_or l i no_row.0) (sym cells-keys) ∙ found-is cell cell-lawful cell_width n words d i no_row.0 e)
-      go (Missing i) e = absurd (missing-key cells d (keys (table4 cell_width n words)) i (subst (Asc below) (sym cells-keys) k.asc) e (subst (λ l. Mem d l) (sym cells-keys) m))
+      go (Err i) e = absurd (missing-key cells d (keys (table4 cell_width n words)) i (subst (Asc below) (sym cells-keys) k.asc) e (subst (λ l. Mem d l) (sym cells-keys) m))
 
   -- No cell touches another twice.
   pub touching-once : (c : Cell) → Once (touching (touch_at kind) (keys t) c)

@@ -1,8 +1,8 @@
 -- The loop goes over the rows of the planes and writes the cells beside the centre.
-use Prim.Native.Nat.{◌+◌, ◌-◌, ◌*◌, ◌≤◌}
+use Prim.Native.Nat.{◌+◌, ◌*◌, ◌≤◌}
 use mathlib.Core.List.{◌++◌}
 use mathlib.Core.Path.{◌≡◌}
-use lib.ListN.{length, take, drop}
+use lib.ListN.{take, drop}
 use Rattle.model.specs.Lists.{gather, keep, keys}
 use Rattle.table.specs.Rows.{table4}
 use Rattle.layout.specs.Widths.{answer_width, cell_width}
@@ -11,7 +11,4 @@ use Rattle.neighbourhood.specs.Beside.{beside}
 use Rattle.neighbourhood.proofs.cube_into.Given as goal
 
 abbrev pub invariant-loop-i : goal.invariant-loop-i
-invariant-loop-i l = (l.i ≤ l.end) × (l.k ≤ l.from + l.i) × (length l.words ≡ length l.initial.words) × (take (answer_width * l.k) l.words ≡ take (answer_width * l.from) l.initial.words ++ gather answer_words (keep (beside l.r l.c) (take l.i (keys (table4 cell_width l.n l.cells))))) × (drop (answer_width * l.k) l.words ≡ drop (answer_width * l.k) l.initial.words)
-
-abbrev pub decreases-loop-i : goal.decreases-loop-i
-decreases-loop-i l = l.end - l.i
+invariant-loop-i l = (l.k ≤ l.from + l.i) × (take (answer_width * l.k) l.words ≡ take (answer_width * l.from) l.initial.words ++ gather answer_words (keep (beside l.r l.c) (take l.i (keys (table4 cell_width l.n l.cells))))) × (drop (answer_width * l.k) l.words ≡ drop (answer_width * l.k) l.initial.words)

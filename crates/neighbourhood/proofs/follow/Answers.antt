@@ -1,10 +1,6 @@
 -- The loop is `Following`.
 -- The row stands within the words.
--- Where the loop is.
--- The bit is set.
--- The next of the rows.
--- The row has a mark.
--- Where the row is unmarked, the queue has space.
+-- The bits from a set one on lead to its row first.
 use Prim.Native.Nat.{ℕ, ◌+◌, ◌*◌, ◌≤◌, ◌<◌}
 use native.Mathlib.Omega.{arith}
 use mathlib.Core.Path.{◌≡◌, sym, ap, ◌∙◌}
@@ -13,118 +9,90 @@ use mathlib.Core.List.{List, ◌∷◌}
 use lib.ListN.{length}
 use borrow.Author.Rules.{rules}
 use Rattle.model.specs.Masks.{bit}
-use Rattle.table.specs.Rows.{cell}
+use Rattle.table.specs.Rows.{cell, is_table4}
 use Rattle.table.specs.Laws.Images.{table-facts}
 use Rattle.layout.specs.Widths.{cell_width}
-use Rattle.neighbourhood.specs.Rows.{row_mask, onward, onward_from}
-use Rattle.neighbourhood.specs.Fronts.{Front, front}
+use Rattle.neighbourhood.specs.Rows.{row_mask, row_near, row_for, onward_from}
 use Rattle.neighbourhood.proofs.Laws.Listing.{onward-all, onward-none, onward-yes, onward-no}
 use Rattle.neighbourhood.proofs.Following.{going_start, going_end, going-same, going-old, going-space, going-new}
+use Rattle.neighbourhood.proofs.follow.Goals.{then-has+then-marks-j-eq0, then-has+else-marks-j-eq0, else-has}
 use Rattle.neighbourhood.proofs.follow.Goals as goal
-use Rattle.neighbourhood.proofs.follow.Lts as lts
-use Rattle.neighbourhood.proofs.follow.Tie as tie
-use Rattle.neighbourhood.proofs.follow.Reads as reads
 
-inside : (s : lts.Start tie.the-claims reads.Pre reads.Post goal.the-invariant-loop-k goal.the-decreases-loop-k) → cell_width * s.args.i + cell_width ≤ length s.args.cells.now
-inside s = let h = s.requires.row in omega (arith, (table-facts cell cell_width s.args.n s.args.cells.now s.requires.table).fits)
+inside : (words : List ℕ) (n i : ℕ) → is_table4 cell_width n words ≡ true → i < n → cell_width * i + cell_width ≤ length words
+inside words n i t h = omega (arith, (table-facts cell cell_width n words t).fits)
 
-abbrev start : lts.At-loop tie.the-claims reads.Pre reads.Post goal.the-invariant-loop-k goal.the-decreases-loop-k → lts.Start tie.the-claims reads.Pre reads.Post goal.the-invariant-loop-k goal.the-decreases-loop-k
-start l = l.before.before.before.before.before
-
-abbrev rows : lts.At-loop tie.the-claims reads.Pre reads.Post goal.the-invariant-loop-k goal.the-decreases-loop-k → List ℕ
-rows l = onward (start l).args.cells.now (start l).args.n (start l).args.i
-
-abbrev first : lts.At-loop tie.the-claims reads.Pre reads.Post goal.the-invariant-loop-k goal.the-decreases-loop-k → Front
-first l = front (start l).args.end (start l).args.marks.now (start l).args.queue.now
-
-abbrev here : lts.At-loop tie.the-claims reads.Pre reads.Post goal.the-invariant-loop-k goal.the-decreases-loop-k → Front
-here l = front l.loop-k.e l.loop-k.marks l.loop-k.queue
-
-abbrev ahead : lts.At-loop tie.the-claims reads.Pre reads.Post goal.the-invariant-loop-k goal.the-decreases-loop-k → ℕ → List ℕ
-ahead l k = onward_from (start l).args.cells.now (start l).args.n (start l).args.i k
-
-is_set : (t : lts.Then1 tie.the-claims reads.Pre reads.Post goal.the-invariant-loop-k goal.the-decreases-loop-k) → let l = t.before.before.before in bit (row_mask (start l).args.cells.now (start l).args.i) l.loop-k.k ≡ true
-unfolding row_mask
-is_set t = sym t.has.ensures ∙ t.if-has.true
-
-next : (a : lts.After-next_row tie.the-claims reads.Pre reads.Post goal.the-invariant-loop-k goal.the-decreases-loop-k) → let l = a.before.before.before.before in ahead l l.loop-k.k ≡ a.next_row-j.result ∷ ahead l (l.loop-k.k + 1)
-next a =
-    let t = a.before in
-    let l = t.before.before.before in
-    onward-yes (start l).args.cells.now (start l).args.n (start l).args.i l.loop-k.k t.loop-k-test.true (is_set t)
-    ∙ ap (λ (j : ℕ). j ∷ ahead l (l.loop-k.k + 1)) (sym a.next_row-j.ensures)
-
-there : (a : lts.After-next_row tie.the-claims reads.Pre reads.Post goal.the-invariant-loop-k goal.the-decreases-loop-k) → a.next_row-j.result < length a.loop-k.marks
-there a =
-    let t = a.before in
-    let l = t.before.before.before in
-    omega (arith, (start l).requires.there l.loop-k.k t.loop-k-test.true (is_set t), a.next_row-j.ensures, (start l).requires.fits, l.loop-k.invariant.marks_kept)
-
-space : (t : lts.Then2 tie.the-claims reads.Pre reads.Post goal.the-invariant-loop-k goal.the-decreases-loop-k) → let l = t in l.loop-k.e < length l.loop-k.queue
-space t =
-    let a = t.before.before in
-    let l = a.before.before.before.before in
-    going-space (start l).args.label (rows l) (first l) (ahead l l.loop-k.k) (here l) l.loop-k.invariant a.next_row-j.result (ahead l (l.loop-k.k + 1)) (next a) t.if-marks-j-eq0.true (start l).requires.space
+next : (words : List ℕ) (n i k j : ℕ) → k < 26 → bit (row_mask words i) k ≡ true → j ≡ row_for words n (row_near words i k) → onward_from words n i k ≡ j ∷ onward_from words n i (k + 1)
+next words n i k j h b e = onward-yes words n i k h b ∙ ap (λ (r : ℕ). r ∷ onward_from words n i (k + 1)) (sym e)
 
 pub offset_bounds-cells-i : goal.offset_bounds-cells-i
-offset_bounds-cells-i c = let h = inside c.before.before.before.before in search rules
+offset_bounds-cells-i c = let h = inside c.args.cells.now c.args.n c.args.i c.requires.table c.requires.row in search rules
 
 pub bounds-cells-i : goal.bounds-cells-i
-bounds-cells-i c = let h = inside c.before.before.before.before.before in search rules
+bounds-cells-i c = let h = inside c.args.cells.now c.args.n c.args.i c.requires.table c.requires.row in omega arith
 
 pub loop-k-init : goal.loop-k-init
-loop-k-init c = let s = c in going_start _ _ _ _ (onward-all s.args.cells.now s.args.n s.args.i)
+loop-k-init c = let a = c.args in going_start _ _ _ _ (onward-all a.cells.now a.n a.i)
 
 pub next_row-j-requires : goal.next_row-j-requires
+unfolding row_mask
 next_row-j-requires c =
-    let l = c.before.before.before.before in
-    let s = start l in
     let h = c.loop-k-test.true in
-    (s.requires.table, s.requires.row, h, (s.requires.kind, sym (s.requires.exact l.loop-k.k h) ∙ is_set c.before))
+    (c.requires.table, c.requires.row, h, (c.requires.kind, sym (c.requires.exact c.loop-k.k h) ∙ sym c.has.ensures ∙ c.if-has.true))
 
 pub offset_bounds-marks-j : goal.offset_bounds-marks-j
-offset_bounds-marks-j c = let h = there c.before in search rules
+unfolding row_mask
+offset_bounds-marks-j c =
+    let h : c.next_row-j.result < length c.args.marks.now = omega (arith, c.requires.there c.loop-k.k c.loop-k-test.true (sym c.has.ensures ∙ c.if-has.true), c.next_row-j.ensures, c.requires.fits) in
+    search rules
 
 pub bounds-marks-j : goal.bounds-marks-j
-bounds-marks-j c = let h = there c.before.before in search rules
+unfolding row_mask
+bounds-marks-j c =
+    omega (arith, c.requires.there c.loop-k.k c.loop-k-test.true (sym c.has.ensures ∙ c.if-has.true), c.next_row-j.ensures, c.requires.fits, c.loop-k.auto.marks)
 
 pub offset_bounds-marks-j-then-marks-j-eq0 : goal.offset_bounds-marks-j-then-marks-j-eq0
-offset_bounds-marks-j-then-marks-j-eq0 c = let h = there c.before.before.before in search rules
+unfolding row_mask
+offset_bounds-marks-j-then-marks-j-eq0 c =
+    let h : c.next_row-j.result < length c.args.marks.now = omega (arith, c.requires.there c.loop-k.k c.loop-k-test.true (sym c.has.ensures ∙ c.if-has.true), c.next_row-j.ensures, c.requires.fits) in
+    search rules
 
 pub bounds-marks-j-then-marks-j-eq0 : goal.bounds-marks-j-then-marks-j-eq0
-bounds-marks-j-then-marks-j-eq0 c = let h = there c.before.before.before in search rules
+unfolding row_mask
+bounds-marks-j-then-marks-j-eq0 c =
+    omega (arith, c.requires.there c.loop-k.k c.loop-k-test.true (sym c.has.ensures ∙ c.if-has.true), c.next_row-j.ensures, c.requires.fits, c.loop-k.auto.marks)
 
 pub offset_bounds-queue-e : goal.offset_bounds-queue-e
-offset_bounds-queue-e c = let h = space c.before in search rules
+unfolding row_mask
+offset_bounds-queue-e c =
+    let a = c.args in
+    let h = going-space _ _ _ _ _ c.loop-k.invariant _ _ (next a.cells.now a.n a.i c.loop-k.k c.next_row-j.result c.loop-k-test.true (sym c.has.ensures ∙ c.if-has.true) c.next_row-j.ensures) c.if-marks-j-eq0.true c.requires.space in
+    search rules
 
 pub bounds-queue-e : goal.bounds-queue-e
-bounds-queue-e c = let h = space c.before in search rules
+unfolding row_mask
+bounds-queue-e c =
+    let a = c.args in
+    going-space _ _ _ _ _ c.loop-k.invariant _ _ (next a.cells.now a.n a.i c.loop-k.k c.next_row-j.result c.loop-k-test.true (sym c.has.ensures ∙ c.if-has.true) c.next_row-j.ensures) c.if-marks-j-eq0.true c.requires.space
 
 pub overflow_add-e : goal.overflow_add-e
-overflow_add-e c = let h = space c.before in search rules
-
-pub loop-k-preserved-then-marks-j-eq0 : goal.loop-k-preserved-then-marks-j-eq0
-loop-k-preserved-then-marks-j-eq0 c =
-    let a = c.before.before.before in
-    let l = a.before.before.before.before in
-    going-new (start l).args.label (rows l) (first l) (ahead l l.loop-k.k) (here l) l.loop-k.invariant a.next_row-j.result (ahead l (l.loop-k.k + 1)) (next a) c.if-marks-j-eq0.true
-
-pub loop-k-preserved-else-marks-j-eq0 : goal.loop-k-preserved-else-marks-j-eq0
-loop-k-preserved-else-marks-j-eq0 c =
-    let a = c.before.before.before in
-    let l = a.before.before.before.before in
-    going-old (start l).args.label (rows l) (first l) (ahead l l.loop-k.k) (here l) l.loop-k.invariant a.next_row-j.result (ahead l (l.loop-k.k + 1)) (next a) c.if-marks-j-eq0.false
+unfolding row_mask
+overflow_add-e c =
+    let a = c.args in
+    let h = going-space _ _ _ _ _ c.loop-k.invariant _ _ (next a.cells.now a.n a.i c.loop-k.k c.next_row-j.result c.loop-k-test.true (sym c.has.ensures ∙ c.if-has.true) c.next_row-j.ensures) c.if-marks-j-eq0.true c.requires.space in
+    search rules
 
 pub loop-k-preserved : goal.loop-k-preserved
 unfolding row_mask
 loop-k-preserved c =
-    let l = c.before.before.before.before in
-    let s = start l in
-    going-same s.args.label (rows l) (first l) (ahead l l.loop-k.k) (here l) l.loop-k.invariant (ahead l (l.loop-k.k + 1))
-    (onward-no s.args.cells.now s.args.n s.args.i l.loop-k.k c.loop-k-test.true (sym c.has.ensures ∙ c.if-has.false))
+    let a = c.args in
+    let k = c.loop-k.k in
+    elim c.if-has.branch [
+      | then-has+then-marks-j-eq0 w ↦ rw (w.e-is, w.marks-is, w.queue-is) (going-new _ _ _ _ _ c.loop-k.invariant _ _ (next a.cells.now a.n a.i k w.next_row-j.result c.loop-k-test.true (sym c.has.ensures ∙ w.if-has.true) w.next_row-j.ensures) w.if-marks-j-eq0.true)
+      | then-has+else-marks-j-eq0 w ↦ rw (w.e-is, w.marks-is, w.queue-is) (going-old _ _ _ _ _ c.loop-k.invariant _ _ (next a.cells.now a.n a.i k w.next_row-j.result c.loop-k-test.true (sym c.has.ensures ∙ w.if-has.true) w.next_row-j.ensures) w.if-marks-j-eq0.false)
+      | else-has w ↦ rw (w.e-is, w.marks-is, w.queue-is) (going-same _ _ _ _ _ c.loop-k.invariant _ (onward-no a.cells.now a.n a.i k c.loop-k-test.true (sym c.has.ensures ∙ w.if-has.false)))
+    ]
 
 pub returns : goal.returns
 returns c =
-    let l = c.before.before in
-    let s = start l in
-    going_end s.args.label (rows l) (first l) (ahead l l.loop-k.k) (here l) l.loop-k.invariant (onward-none s.args.cells.now s.args.n s.args.i l.loop-k.k c.loop-k-test.false)
+    let a = c.args in
+    going_end _ _ _ _ _ c.loop-k.invariant (onward-none a.cells.now a.n a.i c.loop-k.k c.loop-k-test.false)

@@ -1,10 +1,6 @@
 -- The rows passed are marked if they are outside.
-use Prim.Native.Nat.{◌-◌, ◌≤◌}
 use Rattle.neighbourhood.specs.Standing.{OutsideMarked}
 use Rattle.neighbourhood.proofs.mark_outside.Given as goal
 
 abbrev pub invariant-loop-i : goal.invariant-loop-i
-invariant-loop-i l = (l.i ≤ l.n) × OutsideMarked l.cells l.i l.s l.d l.initial.marks l.marks
-
-abbrev pub decreases-loop-i : goal.decreases-loop-i
-decreases-loop-i l = l.n - l.i
+invariant-loop-i l = OutsideMarked l.cells l.i l.s l.d l.initial.marks l.marks

@@ -13,7 +13,7 @@ near_of-requires c =
     let s = c in (
       s.requires.2,
       subst (λ (a : Cell). Lands a (offset_at s.args.k)) (sym c.cell_at.ensures)
-          (lands s.args.cells.now s.args.n (λ j. omega (arith, c.shared_slice_known-1.given j)) s.requires.3.0 (row_cell s.args.cells.now s.args.i) (offset_at s.args.k) s.requires.3.1),
+          (lands s.args.cells.now s.args.n (λ j. omega (arith, c.type_inv.cells j)) s.requires.3.0 (row_cell s.args.cells.now s.args.i) (offset_at s.args.k) s.requires.3.1),
     )
 
 pub returns : goal.returns

@@ -6,4 +6,4 @@ use Rattle.neighbourhood.proofs.plane_row.Goals as goal
 
 pub returns : goal.returns
 unfolding row_for
-returns c = c.index.ensures ∙ ap placed c.find4.ensures
+returns c = c.index.ensures ∙ ap placed c.find.ensures

@@ -6,4 +6,4 @@ use Rattle.neighbourhood.proofs.row_of.Goals as goal
 
 pub returns : goal.returns
 unfolding row_for
-returns c = c.index.ensures ∙ ap placed c.find4_near.ensures
+returns c = c.index.ensures ∙ ap placed c.find_near.ensures

@@ -1,91 +1,73 @@
--- After k neighbours the ids found are those at the first k of the kind, and the words behind them are as they were.
+-- After k neighbours the ids found are those at the first k of the kind.
 use Rattle.layout.specs.Widths.{id_width, cell_id}
-use Rattle.partition.specs.Laws.Found.{near-touches, found_none, found-more, found-same, found_left, tried-all, rest-set}
+use Rattle.partition.specs.Laws.Found.{near-touches, found_none, found-more, found-same, found_left, tried-all}
 use Rattle.partition.specs.Laws.Ids.{row-found, row-missing}
 use Rattle.partition.specs.Laws.Held.{ids-table}
 use Rattle.partition.specs.Held.{HeldRows, tried, ids_at}
 use Rattle.model.specs.Groups.{Ids}
-use Rattle.model.specs.Cells.{same}
-use Rattle.model.specs.Lists.{get}
-use lib.ListN.{length, get_or, length-set}
-use mathlib.Core.Option.{some}
-use mathlib.Core.Path.{◌≡◌, refl, sym, ap, ◌∙◌}
+use Rattle.model.specs.Cells.{Cell, below}
+use Rattle.model.specs.Lists.{keys}
+use Rattle.table.specs.Rows.{cell, table_of, place_of}
+use lib.ListN.{length, get_or}
+use mathlib.Core.List.{List}
+use mathlib.Core.Path.{◌≡◌, sym, ap, ◌∙◌}
 use native.Mathlib.Omega.{arith}
-use Prim.Native.Nat.{ℕ, ◌+◌, ◌*◌, ◌≤◌, ◌<◌}
+use Prim.Native.Nat.{ℕ, ◌+◌, ◌*◌, ◌<◌, ◌≤◌}
+use Rattle.std.proofs.Common.{Ok}
 use borrow.Author.Rules.{rules}
+use Rattle.partition.proofs.found_at.Goals.{then-has_offset+in-Ok, then-has_offset+in_default, else-has_offset}
 use Rattle.partition.proofs.found_at.Goals as goal
-use Rattle.partition.proofs.found_at.Lts as lts
-use Rattle.partition.proofs.found_at.Tie as tie
-use Rattle.partition.proofs.found_at.Reads as reads
 
-abbrev at : lts.Past-After-known_told tie.the-claims reads.Pre reads.Post goal.the-invariant-loop-k goal.the-decreases-loop-k → ℕ
-at c = c.in-Found.i
-
-is-found : (c : lts.Past-After-known_told tie.the-claims reads.Pre reads.Post goal.the-invariant-loop-k goal.the-decreases-loop-k) (t : Ids) → HeldRows c.args.ids.now c.args.n t
-    → (at c < c.args.n) × (get same t c.neighbour_of.result ≡ some (get_or c.args.ids.now (id_width * at c + cell_id) 0))
-is-found c t h = row-found c.args.ids.now c.args.n t h c.neighbour_of.result (at c) (sym c.in-Found.is ∙ c.find4_near-p.ensures)
-
-within : (c : lts.Past-After-known_told tie.the-claims reads.Pre reads.Post goal.the-invariant-loop-k goal.the-decreases-loop-k) → (at c < c.args.n) × (id_width * c.args.n ≤ length c.args.ids.now)
-within c = let s = c in ((is-found c s.requires.0 s.requires.1).0, s.requires.1.fits)
+-- A row that is found is within the words.
+inside : (ids : List ℕ) (n : ℕ) (t : Ids) → HeldRows ids n t → (d : Cell) (i : ℕ) → Ok i ≡ place_of below (keys (table_of cell id_width n ids)) d → (i < n) × (id_width * n ≤ length ids)
+inside ids n t h d i e = ((row-found ids n t h d i e).0, h.fits)
 
 pub loop-k-init : goal.loop-k-init
-loop-k-init c = let s = c in (omega arith, omega arith, refl, s.requires.3, λ t h. found_none s.args.kind t s.args.c s.args.found.now, refl)
+loop-k-init c = let e = c.new-found.ensures in (omega (arith, ap length e), λ t h. e ∙ found_none c.args.kind t c.args.c)
 
-pub find4_near-p-requires : goal.find4_near-p-requires
-find4_near-p-requires c = let s = c in ids-table s.args.ids.now s.args.n s.requires.0 s.requires.1
+pub find_near-p-requires : goal.find_near-p-requires
+find_near-p-requires c = let s = c in ids-table s.args.ids.now s.args.n s.requires.0 s.requires.1
 
-pub overflow_mul-found : goal.overflow_mul-found
-overflow_mul-found c = let w = within c.before in search rules
+pub overflow_mul-i : goal.overflow_mul-i
+overflow_mul-i c = let s = c in let w = inside s.args.ids.now s.args.n s.requires.0 s.requires.1 _ _ (sym c.in-Ok.is ∙ c.find_near-p.ensures) in search rules
 
-pub overflow_add-found : goal.overflow_add-found
-overflow_add-found c = let w = within c.before in search rules
+pub overflow_add-i : goal.overflow_add-i
+overflow_add-i c = let s = c in let w = inside s.args.ids.now s.args.n s.requires.0 s.requires.1 _ _ (sym c.in-Ok.is ∙ c.find_near-p.ensures) in search rules
 
 pub offset_bounds-ids-i : goal.offset_bounds-ids-i
-offset_bounds-ids-i c = let w = within c.before in search rules
+offset_bounds-ids-i c = let s = c in let w = inside s.args.ids.now s.args.n s.requires.0 s.requires.1 _ _ (sym c.in-Ok.is ∙ c.find_near-p.ensures) in search rules
 
 pub bounds-ids-i : goal.bounds-ids-i
-bounds-ids-i c = let w = within c.before.before in search rules
-
-pub loop-k-preserved-in-Found : goal.loop-k-preserved-in-Found
-loop-k-preserved-in-Found c =
-    let s = c in
-    let l = c.loop-k in
-    let v = l.invariant in
-    let f = near-touches s.args.kind s.args.c s.requires.2 l.k (omega arith) ∙ sym c.has_offset.ensures ∙ c.if-has_offset.true in (
-      omega arith,
-      omega arith,
-      simp length-set v.2,
-      v.3,
-      λ t h. found-more s.args.kind t s.args.c l.k l.m l.found (v.4 t h) f (get_or s.args.ids.now (id_width * at c.before.before + cell_id) 0) c.neighbour_of.result (omega arith) c.neighbour_of.ensures (is-found c.before.before t h).1,
-      rest-set l.found s.args.found.now l.m (get_or s.args.ids.now (id_width * at c.before.before + cell_id) 0) v.5,
-    )
-
-pub loop-k-preserved-in-Missing : goal.loop-k-preserved-in-Missing
-loop-k-preserved-in-Missing c =
-    let s = c in
-    let l = c.loop-k in
-    let v = l.invariant in
-    let f = near-touches s.args.kind s.args.c s.requires.2 l.k (omega arith) ∙ sym c.has_offset.ensures ∙ c.if-has_offset.true in (
-      omega arith,
-      omega arith,
-      v.2,
-      v.3,
-      λ t h. found-same s.args.kind t s.args.c l.k l.m l.found (v.4 t h) f c.neighbour_of.result c.neighbour_of.ensures
-          (row-missing s.args.ids.now s.args.n t h c.neighbour_of.result c.in-Missing.field-0 (sym c.in-Missing.is ∙ c.find4_near-p.ensures)),
-      v.5,
-    )
+bounds-ids-i c = let s = c in let w = inside s.args.ids.now s.args.n s.requires.0 s.requires.1 _ _ (sym c.in-Ok.is ∙ c.find_near-p.ensures) in search rules
 
 pub loop-k-preserved : goal.loop-k-preserved
 loop-k-preserved c =
     let s = c in
+    let a = c.args in
     let l = c.loop-k in
     let v = l.invariant in
-    let f = near-touches s.args.kind s.args.c s.requires.2 l.k (omega arith) ∙ sym c.has_offset.ensures ∙ c.if-has_offset.false in
-    (omega arith, omega arith, v.2, v.3, λ t h. found_left s.args.kind t s.args.c l.k l.m l.found (v.4 t h) f, v.5)
+    let near = near-touches a.kind a.c s.requires.2 l.k (omega arith) ∙ sym c.has_offset.ensures in
+    elim c.if-has_offset.branch [
+      | then-has_offset+in-Ok w ↦
+          let g = get_or a.ids.now (id_width * w.in-Ok.i + cell_id) 0 in
+          let e = λ (t : Ids) (h : HeldRows a.ids.now a.n t). (row-found a.ids.now a.n t h w.neighbour_of.result w.in-Ok.i (sym w.in-Ok.is ∙ w.find_near-p.ensures)).1 in
+          let p = w.push.ensures in (
+            rw w.found-is (omega (arith, p.len)),
+            λ t h. rw w.found-is (p.items ∙ found-more a.kind t a.c l.k l.found.items (v.1 t h) (near ∙ w.if-has_offset.true) g w.neighbour_of.result w.neighbour_of.ensures (e t h)),
+          )
+      | then-has_offset+in_default w ↦ (
+        rw w.found-is (omega arith),
+        λ t h. rw w.found-is (found-same a.kind t a.c l.k l.found.items (v.1 t h) (near ∙ w.if-has_offset.true) w.neighbour_of.result w.neighbour_of.ensures
+            (row-missing a.ids.now a.n t h w.neighbour_of.result w.in_default.field-0 (sym w.in_default.is ∙ w.find_near-p.ensures))),
+      )
+      | else-has_offset w ↦ (
+        rw w.found-is (omega arith),
+        λ t h. rw w.found-is (found_left a.kind t a.c l.k l.found.items (v.1 t h) (near ∙ w.if-has_offset.false)),
+      )
+    ]
 
 pub returns : goal.returns
 returns c =
     let s = c in
-    let v = c.loop-k.invariant in
     let e : c.loop-k.k ≡ 26 = omega arith in
-    (omega arith, λ t h. v.4 t h ∙ ap (λ (k : ℕ). ids_at t (tried s.args.kind s.args.c k)) e ∙ tried-all s.args.kind s.args.c s.requires.2 t h.asc, v.5)
+    λ t h. c.loop-k.invariant.1 t h ∙ ap (λ (k : ℕ). ids_at t (tried s.args.kind s.args.c k)) e ∙ tried-all s.args.kind s.args.c s.requires.2 t h.asc

@@ -3,11 +3,8 @@ use Rattle.layout.specs.Rows.{ids_in}
 use Rattle.model.specs.Groups.{size}
 use lib.ListN.{take}
 use mathlib.Core.Path.{◌≡◌}
-use Prim.Native.Nat.{◌-◌, ◌≤◌}
+use Prim.Native.Nat.{◌≤◌}
 use Rattle.partition.proofs.group_size.Given as goal
 
 abbrev pub invariant-loop-i : goal.invariant-loop-i
-invariant-loop-i l = (l.i ≤ l.n) × (l.m ≤ l.i) × (l.m ≡ size (take l.i (ids_in l.n l.ids)) l.g)
-
-abbrev pub decreases-loop-i : goal.decreases-loop-i
-decreases-loop-i l = l.n - l.i
+invariant-loop-i l = (l.m ≤ l.i) × (l.m ≡ size (take l.i (ids_in l.n l.ids)) l.g)

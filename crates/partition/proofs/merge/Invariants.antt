@@ -3,13 +3,9 @@ use Rattle.layout.specs.Widths.{id_width}
 use Rattle.partition.specs.Laws.Join.{partly, merged}
 use Rattle.partition.specs.Held.{HeldRows}
 use Rattle.model.specs.Groups.{Ids}
-use lib.ListN.{length, take}
-use mathlib.Core.Path.{◌≡◌}
-use Prim.Native.Nat.{◌-◌, ◌*◌, ◌≤◌}
+use lib.ListN.{length}
+use Prim.Native.Nat.{◌*◌, ◌≤◌}
 use Rattle.partition.proofs.merge.Given as goal
 
 abbrev pub invariant-loop-i : goal.invariant-loop-i
-invariant-loop-i l = (l.i ≤ l.n) × (length l.ids ≡ length l.initial.ids) × (id_width * l.n ≤ length l.initial.ids) × ((t : Ids) → HeldRows l.initial.ids l.n t → HeldRows l.ids l.n (partly (merged l.into (take l.k l.found)) t l.i))
-
-abbrev pub decreases-loop-i : goal.decreases-loop-i
-decreases-loop-i l = l.n - l.i
+invariant-loop-i l = (id_width * l.n ≤ length l.initial.ids) × ((t : Ids) → HeldRows l.initial.ids l.n t → HeldRows l.ids l.n (partly (merged l.into l.found) t l.i))

@@ -1,7 +1,7 @@
 -- The ids at a cell's neighbours of a kind, tried in order.
-use Rattle.std.specs.Prelude.{ℕ, zero, suc, ◌+◌, ◌-◌, ◌<◌, ◌≡◌, Bool, cond, not, length, take, drop, set}
+use Rattle.std.specs.Prelude.{ℕ, zero, suc, ◌+◌, ◌-◌, ◌<◌, ◌≡◌, Bool, cond, not}
 use native.Mathlib.Omega.{arith}
-use Rattle.std.proofs.Common.{add-one, sym, ◌∙◌, subst, take-suc-set, drop-set-lt, drop-drop}
+use Rattle.std.proofs.Common.{add-one, sym, ◌∙◌, subst}
 use Rattle.std.proofs.Math.Path.{refl, ap}
 use Rattle.std.proofs.Math.Bool.{true, false}
 use mathlib.Core.List.Memᴰ.{head}
@@ -125,26 +125,24 @@ module _ (kind : ℕ) (c : Cell) (ranged : T (cell_in_range c)) where
       ∙ sym (keys-only (touch_at kind c) t))
       ∙ ids-at-rows t (only (touch_at kind c) t) (λ q m. (asc-mem-at cells t asc (keep_out (λ (p : Cell × ℕ). touch_at kind c p.0) t m).0).is)
 
-module _ (kind : ℕ) (t : Ids) (c : Cell) (k m : ℕ) (found : List ℕ) (so : take m found ≡ ids_at t (tried kind c k)) where
+module _ (kind : ℕ) (t : Ids) (c : Cell) (k : ℕ) (found : List ℕ) (so : found ≡ ids_at t (tried kind c k)) where
   -- The next neighbour is not of the kind.
-  pub found_left : touch_at kind c (neighbour_of c (k + 1)) ≡ false → take m found ≡ ids_at t (tried kind c (k + 1))
+  pub found_left : touch_at kind c (neighbour_of c (k + 1)) ≡ false → found ≡ ids_at t (tried kind c (k + 1))
   found_left f = so ∙ ap (ids_at t) (sym (tried_same kind c k f))
 
   module _ (touching : touch_at kind c (neighbour_of c (k + 1)) ≡ true) where
     ids_more : ids_at t (tried kind c (k + 1)) ≡ ids_at t (tried kind c k) ++ list_of (get same t (neighbour_of c (k + 1)))
     ids_more = ap (ids_at t) (tried-more kind c k touching) ∙ ids-at-more t (tried kind c k) (neighbour_of c (k + 1))
 
-    -- The next neighbour has the id g, which is written.
-    pub found-more : (g : ℕ) (d : Cell) → m < length found → d ≡ neighbour_of c (k + 1) → get same t d ≡ some g → take (m + 1) (set found m g) ≡ ids_at t (tried kind c (k + 1))
-    found-more g d h e f =
-        ap (λ (j : ℕ). take j (set found m g)) (add-one m)
-        ∙ take-suc-set found m g h
-        ∙ (λ i. so i ++ list_of (sym f i))
+    -- The next neighbour has the id g, which is found.
+    pub found-more : (g : ℕ) (d : Cell) → d ≡ neighbour_of c (k + 1) → get same t d ≡ some g → found ++ g ∷ [] ≡ ids_at t (tried kind c (k + 1))
+    found-more g d e f =
+        (λ i. so i ++ list_of (sym f i))
         ∙ ap (λ (x : Cell). ids_at t (tried kind c k) ++ list_of (get same t x)) e
         ∙ sym ids_more
 
     -- The next neighbour has no id.
-    pub found-same : (d : Cell) → d ≡ neighbour_of c (k + 1) → get same t d ≡ none → take m found ≡ ids_at t (tried kind c (k + 1))
+    pub found-same : (d : Cell) → d ≡ neighbour_of c (k + 1) → get same t d ≡ none → found ≡ ids_at t (tried kind c (k + 1))
     found-same d e f =
         so
         ∙ sym (append-nil (ids_at t (tried kind c k)))
@@ -152,11 +150,7 @@ module _ (kind : ℕ) (t : Ids) (c : Cell) (k m : ℕ) (found : List ℕ) (so : 
         ∙ ap (λ (x : Cell). ids_at t (tried kind c k) ++ list_of (get same t x)) e
         ∙ sym ids_more
 
--- A word is written at m, and behind it the words are as they were.
-pub rest-set : (x y : List ℕ) (m v : ℕ) → drop m x ≡ drop m y → drop (m + 1) (set x m v) ≡ drop (m + 1) y
-rest-set x y m v e = drop-set-lt (m + 1) x m v (omega arith) ∙ sym (drop-drop 1 m x) ∙ ap (drop 1) e ∙ drop-drop 1 m y
-
 -- No neighbour is tried yet.
-pub found_none : (kind : ℕ) (t : Ids) (c : Cell) (found : List ℕ) → take 0 found ≡ ids_at t (tried kind c 0)
+pub found_none : (kind : ℕ) (t : Ids) (c : Cell) → [] ≡ ids_at t (tried kind c 0)
 unfolding tried ids_at
-found_none kind t c found = refl
+found_none kind t c = refl

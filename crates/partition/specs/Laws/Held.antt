@@ -20,7 +20,7 @@ use Rattle.model.proofs.Laws.Orders.{Ordered, numbers}
 use Rattle.model.proofs.Laws.Sorted.{add-length}
 use Rattle.model.proofs.Laws.Tables.{keys-put, keys_length, put-asc, at_mem}
 use Rattle.table.specs.Rows.{Kind, number, cell, cell_at, rows_of, entry_of, table_of, image_of, stored_of, are_wide, is_table_of, has_room_of, place_of, key1, rest1}
-use Rattle.table.specs.declared.Place.TheVariants.{Found, Missing}
+use Rattle.std.specs.Prelude.{Ok, Err}
 use Rattle.table.specs.Laws.Answers.{found_below, found-is, found-rest, missing-none}
 use Rattle.table.specs.Laws.Kinds.{Lawful, number-lawful, cell-lawful}
 use Rattle.table.specs.Laws.Images.{image-length}
@@ -260,14 +260,14 @@ module _ (words : List ℕ) (k : ℕ) (l : List (ℕ × Group)) (held : HeldGrou
   groups-get = ap (λ (u : List (ℕ × List ℕ)). get eqb u g) (groups-rows words k l held) ∙ through-get group_tail eqb l g
 
   -- A group that is not found has no record.
-  pub group-missing : (i : ℕ) → Missing i ≡ place_of ltb (keys (table_of number group_width k words)) g → get eqb l g ≡ none
+  pub group-missing : (i : ℕ) → Err i ≡ place_of ltb (keys (table_of number group_width k words)) g → get eqb l g ≡ none
   group-missing i e = go (get eqb l g) (sym groups-get ∙ missing-none number number-lawful group_width k words g i (groups-table words k l held) e)
     where
       go : (o : Option Group) → on_some group_tail o ≡ none → o ≡ none
       go none f = refl
       go (some r) f = absurd (none-some f)
 
-  module _ (i : ℕ) (e : Found i ≡ place_of ltb (keys (table_of number group_width k words)) g) where
+  module _ (i : ℕ) (e : Ok i ≡ place_of ltb (keys (table_of number group_width k words)) g) where
     -- The row that is found is within the words.
     pub group-row : (i < k) × (group_width * i + group_width ≤ length words)
     group-row = let h : i < k = found_below number number-lawful group_width k words g i e in let f : group_width * k ≤ length words = held.fits in (h, omega arith)
@@ -308,7 +308,7 @@ module _ (words : List ℕ) (k : ℕ) (l : List (ℕ × Group)) (held : HeldGrou
         one ∙ ap (λ (o : Option Group). g ∷ group_tail (grown o c m)) (sym group-found.1)
 
   -- The record of a first cell.
-  pub group-first : (i : ℕ) (c : Cell) (m : ℕ) → Missing i ≡ place_of ltb (keys (table_of number group_width k words)) g
+  pub group-first : (i : ℕ) (c : Cell) (m : ℕ) → Err i ≡ place_of ltb (keys (table_of number group_width k words)) g
       → g ∷ c.grid ∷ 1 ∷ m ∷ c.x ∷ c.y ∷ c.z ∷ c.x ∷ c.y ∷ c.z ∷ [] ≡ g ∷ group_tail (grown (get eqb l g) c m)
   group-first i c m e = ap (λ (o : Option Group). g ∷ group_tail (grown o c m)) (sym (group-missing i e))
 

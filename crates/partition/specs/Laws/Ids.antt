@@ -16,7 +16,7 @@ use Rattle.model.proofs.Laws.Members.{each-length, each_append, gather_append, k
 use Rattle.model.specs.Facts.{Asc}
 use Rattle.model.proofs.Laws.Tables.{put-asc, put-out}
 use Rattle.table.specs.Rows.{cell, cell_at, cell_words, rows_of, row_of, table_of, image_of, stored_of, is_table_of, has_room_of, place_of, key4}
-use Rattle.table.specs.declared.Place.TheVariants.{Found, Missing}
+use Rattle.std.specs.Prelude.{Ok, Err}
 use Rattle.table.specs.Laws.Kinds.{cell-lawful}
 use Rattle.table.specs.Laws.Answers.{found_below, found-rest, missing-none}
 use Rattle.table.specs.Laws.Images.{words-length}
@@ -91,7 +91,7 @@ module _ (words : List ℕ) (n : ℕ) (t : Ids) (held : HeldRows words n t) wher
   ids-get d = ap (λ (u : List (Cell × List ℕ)). get same u d) (ids-rows words n t held) ∙ through-get one_id same t d
 
   -- A cell that is not found has no id.
-  pub row-missing : (d : Cell) (i : ℕ) → Missing i ≡ place_of below (keys (table_of cell id_width n words)) d → get same t d ≡ none
+  pub row-missing : (d : Cell) (i : ℕ) → Err i ≡ place_of below (keys (table_of cell id_width n words)) d → get same t d ≡ none
   row-missing d i e = go (get same t d) (sym (ids-get d) ∙ missing-none cell cell-lawful id_width n words d i (ids-table words n t held) e)
     where
       go : (o : Option ℕ) → on_some one_id o ≡ none → o ≡ none
@@ -99,7 +99,7 @@ module _ (words : List ℕ) (n : ℕ) (t : Ids) (held : HeldRows words n t) wher
       go (some r) f = absurd (none-some f)
 
   -- A cell that is found has the id of its row.
-  pub row-found : (d : Cell) (i : ℕ) → Found i ≡ place_of below (keys (table_of cell id_width n words)) d → (i < n) × (get same t d ≡ some (get_or words (id_width * i + cell_id) 0))
+  pub row-found : (d : Cell) (i : ℕ) → Ok i ≡ place_of below (keys (table_of cell id_width n words)) d → (i < n) × (get same t d ≡ some (get_or words (id_width * i + cell_id) 0))
   row-found d i e =
       let h : i < n = found_below cell cell-lawful id_width n words d i e in
       let w : get_or (drop cell_id (get_or (rows_of id_width n words) i [])) 0 0 ≡ get_or words (id_width * i + cell_id) 0 = rest_at id_width n words i cell_id 0 h (omega arith) in

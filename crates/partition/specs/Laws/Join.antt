@@ -1,7 +1,10 @@
 -- Sizes, the largest group and merging, row by row.
-use Rattle.std.specs.Prelude.{ℕ, zero, suc, ◌+◌, ◌*◌, ◌≤◌, ◌<◌, ◌≡◌, refl, Bool, true, false, cond, ◌||◌, ◌&&◌, eqb, ltb, length, take, drop, get_or, set}
-use Rattle.std.proofs.Common.{arith, add-one, sym, ap, ◌∙◌, ⊎_elim, eqb→eq, length-append, take-append-drop, drop_of_length-le, get_or-take, drop-drop, drop-cons, take_all, length-take-le, drop_at, take_at, lt-ltb, le-ltb, eq-eqb, ne_eqb}
+use Rattle.std.specs.Prelude.{ℕ, zero, suc, ◌+◌, ◌*◌, ◌≤◌, ◌<◌, ◌≡◌, refl, Bool, true, false, cond, ◌||◌, eqb, ltb, length, take, drop, get_or, set}
+use Rattle.std.proofs.Common.{arith, add-one, sym, ap, ◌∙◌, ⊎_elim, eqb→eq, length-append, take-append-drop, drop_of_length-le, drop-drop, take_all, length-take-le, drop_at, take_at, lt-ltb, le-ltb, eq-eqb, ne_eqb}
 use Rattle.std.proofs.Math.Path.{subst}
+use Rattle.std.proofs.lemmas.List.{at_drop_more, at_drop_all}
+use Rattle.std.proofs.lemmas.Bool.Decides.{nat_tests}
+use Rattle.std.specs.List.{list_any}
 use mathlib.Core.List.Memᴰ.{append_right}
 use mathlib.Core.List.Memᴰ.{head}
 use mathlib.Core.List.Memᴰ.{tail}
@@ -74,42 +77,28 @@ pub size-all : (words : List ℕ) (n g i m : ℕ) → n ≤ i → m ≡ size (ta
 size-all words n g i m h e = let c = read_length words n in e ∙ ap (λ (u : Ids). size u g) (take_all i (ids_in n words) (omega arith))
 
 -- The largest of the groups from j on, with the best so far.
-module _ (t : Ids) (found : List ℕ) (k j best : ℕ) (h : j < k) (f : k ≤ length found) where
-  largest_step : largest_group t best (drop j (take k found)) ≡ largest_group t (cond (ltb (size t best) (size t (get_or found j 0))) (get_or found j 0) best) (drop (j + 1) (take k found))
-  largest_step =
-      let l : length (take k found) ≡ k = length-take-le k found f in
-      ap (largest_group t best) (drop-cons (take k found) j 0 (omega arith) ∙ (λ i. get_or-take k found j 0 h i ∷ drop (sym (add-one j) i) (take k found)))
+module _ (t : Ids) (found : List ℕ) (j best : ℕ) (h : j < length found) where
+  largest_step : largest_group t best (drop j found) ≡ largest_group t (cond (ltb (size t best) (size t (get_or found j 0))) (get_or found j 0) best) (drop (j + 1) found)
+  largest_step = at_drop_more (largest_group t best) found j 0 h
 
-  pub largest-new : (w : ℕ) → largest_group t best (drop j (take k found)) ≡ w → size t best < size t (get_or found j 0)
-      → largest_group t (get_or found j 0) (drop (j + 1) (take k found)) ≡ w
-  largest-new w e b = ap (λ (c : Bool). largest_group t (cond c (get_or found j 0) best) (drop (j + 1) (take k found))) (sym (lt-ltb (size t best) (size t (get_or found j 0)) b)) ∙ sym largest_step ∙ e
+  pub largest-new : (w : ℕ) → largest_group t best (drop j found) ≡ w → size t best < size t (get_or found j 0)
+      → largest_group t (get_or found j 0) (drop (j + 1) found) ≡ w
+  largest-new w e b = ap (λ (c : Bool). largest_group t (cond c (get_or found j 0) best) (drop (j + 1) found)) (sym (lt-ltb (size t best) (size t (get_or found j 0)) b)) ∙ sym largest_step ∙ e
 
-  pub largest-old : (w : ℕ) → largest_group t best (drop j (take k found)) ≡ w → size t (get_or found j 0) ≤ size t best
-      → largest_group t best (drop (j + 1) (take k found)) ≡ w
-  largest-old w e b = ap (λ (c : Bool). largest_group t (cond c (get_or found j 0) best) (drop (j + 1) (take k found))) (sym (le-ltb (size t best) (size t (get_or found j 0)) b)) ∙ sym largest_step ∙ e
+  pub largest-old : (w : ℕ) → largest_group t best (drop j found) ≡ w → size t (get_or found j 0) ≤ size t best
+      → largest_group t best (drop (j + 1) found) ≡ w
+  largest-old w e b = ap (λ (c : Bool). largest_group t (cond c (get_or found j 0) best) (drop (j + 1) found)) (sym (le-ltb (size t best) (size t (get_or found j 0)) b)) ∙ sym largest_step ∙ e
 
-pub largest-end : (t : Ids) (found : List ℕ) (k j best w : ℕ) → k ≤ j → k ≤ length found → largest_group t best (drop j (take k found)) ≡ w → best ≡ w
-largest-end t found k j best w h f e =
-    let l : length (take k found) ≡ k = length-take-le k found f in
-    ap (largest_group t best) (sym (drop_of_length-le (take k found) {i = j} (omega arith))) ∙ e
+pub largest-end : (t : Ids) (found : List ℕ) (j best w : ℕ) → length found ≤ j → largest_group t best (drop j found) ≡ w → best ≡ w
+largest-end t found j best w h e = sym (at_drop_all (largest_group t best) found j h) ∙ e
 
--- Whether a number is among the first k, tried from j on.
-module _ (found : List ℕ) (k j g : ℕ) (h : j < k) (f : k ≤ length found) where
-  has-step : has eqb (drop j (take k found)) g ≡ (eqb g (get_or found j 0) || has eqb (drop (j + 1) (take k found)) g)
-  has-step =
-      let l : length (take k found) ≡ k = length-take-le k found f in
-      ap (λ (x : List ℕ). has eqb x g) (drop-cons (take k found) j 0 (omega arith) ∙ (λ i. get_or-take k found j 0 h i ∷ drop (sym (add-one j) i) (take k found)))
-
-  pub has_here : (w : Bool) → has eqb (drop j (take k found)) g ≡ w → g ≡ get_or found j 0 → true ≡ w
-  has_here w e b = ap (λ (c : Bool). c || has eqb (drop (j + 1) (take k found)) g) (sym (eq-eqb g (get_or found j 0) b)) ∙ sym has-step ∙ e
-
-  pub has_on : (w : Bool) → has eqb (drop j (take k found)) g ≡ w → (g ≡ get_or found j 0 → ⊥) → has eqb (drop (j + 1) (take k found)) g ≡ w
-  has_on w e b = ap (λ (c : Bool). c || has eqb (drop (j + 1) (take k found)) g) (sym (ne_eqb g (get_or found j 0) b)) ∙ sym has-step ∙ e
-
-pub has_end : (found : List ℕ) (k j g : ℕ) (w : Bool) → k ≤ j → k ≤ length found → has eqb (drop j (take k found)) g ≡ w → false ≡ w
-has_end found k j g w h f e =
-    let l : length (take k found) ≡ k = length-take-le k found f in
-    ap (λ (x : List ℕ). has eqb x g) (sym (drop_of_length-le (take k found) {i = j} (omega arith))) ∙ e
+-- Whether g is one of the numbers.
+pub has-found : (l : List ℕ) (g : ℕ) → list_any (λ y. eqb y g) l ≡ has eqb l g
+has-found [] g = refl
+has-found (y ∷ l) g = ap (λ (b : Bool). b || list_any (λ x. eqb x g) l) (turned y g) ∙ ap (λ (b : Bool). eqb g y || b) (has-found l g)
+  where
+    turned : (a b : ℕ) → eqb a b ≡ eqb b a
+    turned a b = grind (arith, nat_tests)
 
 -- Rows changed one after the other: the first i are changed, the others as they were.
 module _ (f : Cell → ℕ → ℕ) where
@@ -175,39 +164,17 @@ module _ (into : ℕ) (l : List ℕ) where
     merge-same y = partly-same merged words₀ words n t held₀ i h held (ap (λ (b : Bool). cond b into (get_or words (id_width * i + cell_id) 0)) (sym y ∙ e))
 
 -- A cell joins the groups found.
-module _ (t : Ids) (c : Cell) (found : List ℕ) (k : ℕ) (one : 1 ≤ k) where
-  first_found : get_or (take k found) 0 0 ≡ get_or found 0 0
-  first_found = get_or-take k found 0 0 (omega arith)
-
-  pub join-done : (words₁ words₂ : List ℕ) (r into : ℕ) → HeldRows words₁ r (put below c (get_or found 0 0) t)
-      → into ≡ largest_group (ids_in r words₁) (get_or found 0 0) (drop 1 (take k found))
-      → ((u : Ids) → HeldRows words₁ r u → HeldRows words₂ r (merge into (take k found) u))
-      → HeldRows words₂ r (joined t c (take k found))
-  unfolding joined
-  join-done words₁ words₂ r into h e f =
-      subst (λ (u : Ids). HeldRows words₂ r u)
-      ((λ i. merge (e i) (take k found) (put below c (get_or found 0 0) t))
-      ∙ (λ i. merge (largest_group (ids-read words₁ r (put below c (get_or found 0 0) t) h i) (get_or found 0 0) (drop 1 (take k found))) (take k found) (put below c (get_or found 0 0) t))
-      ∙ (λ i. merge (largest_group (put below c (sym first_found i) t) (sym first_found i) (drop 1 (take k found))) (take k found) (put below c (sym first_found i) t)))
-      (f (put below c (get_or found 0 0) t) h)
-
--- Whether the first k are all g, tried from j on.
-module _ (found : List ℕ) (k j g : ℕ) (h : j < k) (f : k ≤ length found) where
-  all-step : all (eqb g) (drop j (take k found)) ≡ (eqb g (get_or found j 0) && all (eqb g) (drop (j + 1) (take k found)))
-  all-step =
-      let l : length (take k found) ≡ k = length-take-le k found f in
-      ap (all (eqb g)) (drop-cons (take k found) j 0 (omega arith) ∙ (λ i. get_or-take k found j 0 h i ∷ drop (sym (add-one j) i) (take k found)))
-
-  pub all-on : (w : Bool) → all (eqb g) (drop j (take k found)) ≡ w → g ≡ get_or found j 0 → all (eqb g) (drop (j + 1) (take k found)) ≡ w
-  all-on w e b = ap (λ (c : Bool). c && all (eqb g) (drop (j + 1) (take k found))) (sym (eq-eqb g (get_or found j 0) b)) ∙ sym all-step ∙ e
-
-  pub all-not : (w : Bool) → all (eqb g) (drop j (take k found)) ≡ w → (g ≡ get_or found j 0 → ⊥) → false ≡ w
-  all-not w e b = ap (λ (c : Bool). c && all (eqb g) (drop (j + 1) (take k found))) (sym (ne_eqb g (get_or found j 0) b)) ∙ sym all-step ∙ e
-
-pub all_end : (found : List ℕ) (k j g : ℕ) (w : Bool) → k ≤ j → k ≤ length found → all (eqb g) (drop j (take k found)) ≡ w → true ≡ w
-all_end found k j g w h f e =
-    let l : length (take k found) ≡ k = length-take-le k found f in
-    ap (all (eqb g)) (sym (drop_of_length-le (take k found) {i = j} (omega arith))) ∙ e
+pub join-done : (t : Ids) (c : Cell) (found : List ℕ) (words₁ words₂ : List ℕ) (r into : ℕ) → HeldRows words₁ r (put below c (get_or found 0 0) t)
+    → into ≡ largest_group (ids_in r words₁) (get_or found 0 0) (drop 1 found)
+    → ((u : Ids) → HeldRows words₁ r u → HeldRows words₂ r (merge into found u))
+    → HeldRows words₂ r (joined t c found)
+unfolding joined
+join-done t c found words₁ words₂ r into h e f =
+    let g : ℕ = get_or found 0 0 in
+    subst (λ (u : Ids). HeldRows words₂ r u)
+    ((λ i. merge (e i) found (put below c g t))
+    ∙ (λ i. merge (largest_group (ids-read words₁ r (put below c g t) h i) g (drop 1 found)) found (put below c g t)))
+    (f (put below c g t) h)
 
 -- Where all groups found are the same, that one is the largest, and merging changes nothing.
 largest-same : (t : Ids) (g : ℕ) (l : List ℕ) → ((h : ℕ) → Mem h l → h ≡ g) → largest_group t g l ≡ g
@@ -225,19 +192,16 @@ merge-nothing t g l f =
     (λ q m. ⊎_elim (λ u. cond_yes (has eqb l q.1) g q.1 u ∙ sym (f q.1 (of-has numbers l u))) (λ u. cond_no (has eqb l q.1) g q.1 u) (decided (has eqb l q.1)))
 
 -- A cell joins the one group found.
-pub join-same : (t : Ids) (c : Cell) (found : List ℕ) (k : ℕ) → 1 ≤ k → all (eqb (get_or found 0 0)) (take k found) ≡ true
-    → (words : List ℕ) (r : ℕ) → HeldRows words r (put below c (get_or found 0 0) t) → HeldRows words r (joined t c (take k found))
+pub join-same : (t : Ids) (c : Cell) (found : List ℕ) → all (eqb (get_or found 0 0)) found ≡ true
+    → (words : List ℕ) (r : ℕ) → HeldRows words r (put below c (get_or found 0 0) t) → HeldRows words r (joined t c found)
 unfolding joined
-join-same t c found k one a words r h =
+join-same t c found a words r h =
     let g : ℕ = get_or found 0 0 in
-    let l : List ℕ = take k found in
-    let e : get_or l 0 0 ≡ g = first_found t c found k one in
-    let f : (x : ℕ) → Mem x l → x ≡ g = λ x m. sym (eqb→eq g x (all-out (eqb g) l (T_true a) m)) in
-    let d : (x : ℕ) → Mem x (drop 1 l) → x ≡ g = λ x m. f x (subst (λ (y : List ℕ). Mem x y) (take-append-drop 1 l) (append_right (take 1 l) m)) in
+    let f : (x : ℕ) → Mem x found → x ≡ g = λ x m. sym (eqb→eq g x (all-out (eqb g) found (T_true a) m)) in
+    let d : (x : ℕ) → Mem x (drop 1 found) → x ≡ g = λ x m. f x (subst (λ (y : List ℕ). Mem x y) (take-append-drop 1 found) (append_right (take 1 found) m)) in
     subst (λ (u : Ids). HeldRows words r u)
-    (sym ((λ i. merge (largest_group (put below c (e i) t) (e i) (drop 1 l)) l (put below c (e i) t))
-    ∙ ap (λ (x : ℕ). merge x l (put below c g t)) (largest-same (put below c g t) g (drop 1 l) d)
-    ∙ merge-nothing (put below c g t) g l f))
+    (sym (ap (λ (x : ℕ). merge x found (put below c g t)) (largest-same (put below c g t) g (drop 1 found) d)
+    ∙ merge-nothing (put below c g t) g found f))
     h
 
 joined-some : (kind : ℕ) (s : Groups) (c : Cell) (l : List ℕ) → 1 ≤ length l → join_found (touch_at kind) s c l ≡ record { ids = joined s.ids c l; next = s.next }
@@ -246,21 +210,21 @@ joined-some kind s c [] h = absurd (omega arith)
 joined-some kind s c (g ∷ l) h = refl
 
 -- Rule 1 where no group is found.
-pub rule1-none : (kind : ℕ) (words words₁ : List ℕ) (n next r : ℕ) (s : Groups) (c : Cell) (found : List ℕ) (k : ℕ) → HeldIds words n next s
-    → take k found ≡ found_at (touch_at kind) s.ids c → k ≡ 0 → ((t : Ids) → HeldRows words n t → HeldRows words₁ r (put below c next t))
+pub rule1-none : (kind : ℕ) (words words₁ : List ℕ) (n next r : ℕ) (s : Groups) (c : Cell) (found : List ℕ) → HeldIds words n next s
+    → found ≡ found_at (touch_at kind) s.ids c → length found ≡ 0 → ((t : Ids) → HeldRows words n t → HeldRows words₁ r (put below c next t))
     → HeldIds words₁ r (next + 1) (rule1 (touch_at kind) s c)
-rule1-none kind words words₁ n next r s c found k held e z f =
-    let a : found_at (touch_at kind) s.ids c ≡ [] = sym e ∙ ap (λ (m : ℕ). take m found) z in
+rule1-none kind words words₁ n next r s c found held e z f =
+    let a : found_at (touch_at kind) s.ids c ≡ [] = sym e ∙ drop_of_length-le found {i = 0} (omega arith) in
     let b : next ≡ s.next = held.is-next in
     subst (λ (u : Groups). HeldIds words₁ r (next + 1) u) (ap (join_found (touch_at kind) s c) (sym a))
     (record { rows = subst (λ (m : ℕ). HeldRows words₁ r (put below c m s.ids)) b (f s.ids held.rows); is-next = omega arith })
 
 -- Rule 1 where a group is found.
-pub rule1-some : (kind : ℕ) (words words₁ : List ℕ) (n next r : ℕ) (s : Groups) (c : Cell) (found : List ℕ) (k : ℕ) → HeldIds words n next s
-    → take k found ≡ found_at (touch_at kind) s.ids c → 1 ≤ k → k ≤ length found → ((t : Ids) → HeldRows words n t → HeldRows words₁ r (joined t c (take k found)))
+pub rule1-some : (kind : ℕ) (words words₁ : List ℕ) (n next r : ℕ) (s : Groups) (c : Cell) (found : List ℕ) → HeldIds words n next s
+    → found ≡ found_at (touch_at kind) s.ids c → 1 ≤ length found → ((t : Ids) → HeldRows words n t → HeldRows words₁ r (joined t c found))
     → HeldIds words₁ r next (rule1 (touch_at kind) s c)
-rule1-some kind words words₁ n next r s c found k held e z b f =
-    subst (λ (u : Groups). HeldIds words₁ r next u) (sym (joined-some kind s c (take k found) (omega (arith, length-take-le k found b))) ∙ ap (join_found (touch_at kind) s c) e)
+rule1-some kind words words₁ n next r s c found held e z f =
+    subst (λ (u : Groups). HeldIds words₁ r next u) (sym (joined-some kind s c found z) ∙ ap (join_found (touch_at kind) s c) e)
     (record { rows = f s.ids held.rows; is-next = held.is-next })
 
 -- One newly occupied cell after the other.

@@ -3,7 +3,7 @@ use Rattle.std.specs.Prelude.{ℕ, zero, suc, ◌≤◌, ◌<◌, ◌≡◌, ref
 use Rattle.std.proofs.Common.{arith, sym, ◌∙◌, ap, subst}
 use mathlib.Core.List.Memᴰ.{cast as mem-cast}
 use mathlib.Core.List.{List, Memᴰ as Mem}
-use Rattle.model.specs.Lists.{each, keys}
+use Rattle.model.specs.Lists.{keys}
 use Rattle.model.specs.Cells.{Cell, same, touch_at}
 use Rattle.model.specs.Shortest.{steps_from}
 use Rattle.model.proofs.Laws.Orders.{cells}

@@ -1,22 +1,16 @@
-use mathlib.Core.Path.{sym, ap, ◌∙◌}
+use native.Mathlib.Omega.{arith}
+use mathlib.Core.Path.{refl, ◌∙◌}
+use Prim.Native.Nat.{◌+◌, ◌*◌}
+use Rattle.std.proofs.Common.{rules, tests}
+use Rattle.std.proofs.lemmas.Iterator.{YieldsList-from_range}
+use Rattle.std.proofs.lemmas.Iterator.Search.{all_from_yields_List}
 use Rattle.model.specs.Cells.{cell_in_range}
-use Rattle.points_check.specs.Laws.Lines.{at-lines, all-no, all-next, all_end}
+use Rattle.table.specs.Rows.{cell_at}
+use Rattle.points_check.specs.Laws.Lines.{at-lines, lines-all}
 use Rattle.points_check.proofs.cells_in_range.Goals as goal
-
-pub returns-then-not-stored_in_range : goal.returns-then-not-stored_in_range
-returns-then-not-stored_in_range c =
-    let k = c in
-    let s = k in
-    sym (k.loop-i.invariant ∙ all-no (at-lines s.args.s.now s.args.w s.args.at s.args.n) cell_in_range k.loop-i.i c.loop-i-test.true (ap cell_in_range (sym c.cell_at.ensures) ∙ sym c.stored_in_range.ensures ∙ c.if-not-stored_in_range.true))
-
-pub loop-i-preserved : goal.loop-i-preserved
-loop-i-preserved c =
-    let k = c in
-    let s = k in
-    k.loop-i.invariant ∙ all-next (at-lines s.args.s.now s.args.w s.args.at s.args.n) cell_in_range k.loop-i.i c.loop-i-test.true (ap cell_in_range (sym c.cell_at.ensures) ∙ sym c.stored_in_range.ensures ∙ c.if-not-stored_in_range.false)
 
 pub returns : goal.returns
 returns c =
-    let k = c in
-    let s = k in
-    sym (k.loop-i.invariant ∙ all_end (at-lines s.args.s.now s.args.w s.args.at s.args.n) cell_in_range k.loop-i.i c.loop-i-test.false)
+    let a = c.args in
+    all_from_yields_List (λ i. cell_in_range (cell_at a.s.now (a.w * i + a.at))) _ _ _ c.all.ensures.ran (YieldsList-from_range 0 a.n a.n refl (omega arith)) (λ x b q k. search (rules, tests))
+    ∙ lines-all (at-lines a.s.now a.w a.at a.n) cell_in_range _ (λ i h. refl)

@@ -9,4 +9,4 @@ pub returns : goal.returns
 unfolding entities_right
 returns c =
     let a = c.args in
-    λ i. c.zero_from-zero.ensures i && (leb a.n most_entities && (leb a.m most_cells && c.is_table1-rows.ensures i))
+    λ i. c.zero_from-zero.ensures i && (leb a.n most_entities && (leb a.m most_cells && c.is_table-rows.ensures i))

@@ -1,6 +1,8 @@
 -- Lists whose members are read one after the other: tests of all members that go along.
 use Rattle.std.specs.Prelude.{ℕ, zero, suc, ◌+◌, ◌*◌, ◌≤◌, ◌<◌, ◌≡◌, Bool, true, false, ◌&&◌, List, [], ◌∷◌, length, drop, get_or}
-use Rattle.std.proofs.Common.{add-one, arith, sym, ap, ◌∙◌, drop_of_length-le, drop-cons}
+use Rattle.std.proofs.Common.{refl, add-one, arith, sym, ap, ◌∙◌, drop_of_length-le, drop-cons}
+use Rattle.std.specs.List.{list_all, range_with_len}
+use Rattle.std.specs.Cmp.Lexicographic.{pointwise}
 use Rattle.model.specs.Lists.{all, equal, each, count}
 use Rattle.model.proofs.Laws.Members.{each-length, count-length}
 use Rattle.neighbourhood.proofs.Laws.Lines.{each-drop}
@@ -79,3 +81,32 @@ counted-lines n = lines_of (count 0 n) 0 (count-length 0 n) (λ i h. count-there
 pub at-lines : (s : List ℕ) (w at n : ℕ) → Lines (cells_at s w at n) n (λ i. cell_at s (w * i + at))
 unfolding cells_at
 at-lines s w at n = lines-each (λ (i : ℕ). cell_at s (w * i + at)) (counted-lines n)
+
+-- A test of all numbers below the number of members, which is one of the members.
+pub lines-all : {A : Type 0} {l : List A} {n : ℕ} {at : ℕ → A} → Lines l n at → (p : A → Bool) (q : ℕ → Bool) → ((i : ℕ) → i < n → q i ≡ p (at i)) → list_all q (range_with_len 0 n) ≡ all p l
+lines-all {A} {l} {n} {at} r p q f = from n 0 (omega arith)
+  where
+    from : (k i : ℕ) → k + i ≡ n → list_all q (range_with_len i k) ≡ all p (drop i l)
+    from zero i e = sym (ap (all p) (lines_end r i (omega arith)))
+    from (suc k) i e =
+        let h : i < n = omega arith in
+        (λ t. f i h t && from k (i + 1) (omega arith) t)
+        ∙ sym (ap (all p) (r.is i h) ∙ ap (λ m. p (at i) && all p (drop m l)) (sym (add-one i)))
+
+-- One that is a test of the members of two lists.
+pub lines-equal : {A : Type 0} (eq : A → A → Bool) {l m : List A} {n : ℕ} {at bt : ℕ → A} → Lines l n at → Lines m n bt → (q : ℕ → Bool) → ((i : ℕ) → i < n → q i ≡ eq (at i) (bt i)) → list_all q (range_with_len 0 n) ≡ equal eq l m
+lines-equal {A} eq {l} {m} {n} {at} {bt} r s q f = from n 0 (omega arith)
+  where
+    from : (k i : ℕ) → k + i ≡ n → list_all q (range_with_len i k) ≡ equal eq (drop i l) (drop i m)
+    from zero i e = sym (λ t. equal eq (lines_end r i (omega arith) t) (lines_end s i (omega arith) t))
+    from (suc k) i e =
+        let h : i < n = omega arith in
+        (λ t. f i h t && from k (i + 1) (omega arith) t)
+        ∙ sym ((λ t. equal eq (r.is i h t) (s.is i h t)) ∙ ap (λ k. eq (at i) (bt i) && equal eq (drop k l) (drop k m)) (sym (add-one i)))
+
+-- The test of two slices is that of two lists.
+pub pointwise_equal : {A : Type 0} (eq : A → A → Bool) (l m : List A) → pointwise eq l m ≡ equal eq l m
+pointwise_equal eq [] [] = refl
+pointwise_equal eq [] (y ∷ m) = refl
+pointwise_equal eq (x ∷ l) [] = refl
+pointwise_equal eq (x ∷ l) (y ∷ m) = ap (λ b. eq x y && b) (pointwise_equal eq l m)

@@ -11,7 +11,7 @@ use Rattle.model.proofs.Laws.Orders.{cells, numbers, is-or, differ}
 use Rattle.model.proofs.Laws.Members.{keep_append, keep-shorter, all-in, all-out, has_of, of-has, equal-in, equal-out}
 use Rattle.model.proofs.Laws.Sorted.{asc-equal, ascending-asc, ascending-in, ascending-out}
 use Rattle.neighbourhood.proofs.Laws.Lines.{get_d-mem, mem-get_d, asc-index}
-use Rattle.table.specs.declared.Place.TheVariants.{Found}
+use Rattle.std.specs.Prelude.{Ok}
 use Rattle.table.specs.Rows.{cell, cell_at, table4, is_table4, place_of}
 use Rattle.table.specs.Laws.Kinds.{cell-lawful}
 use Rattle.table.specs.Laws.Images.{table-facts}
@@ -61,7 +61,7 @@ module _ (s : List ℕ) (m : ℕ) (ok : is_table4 cell_width m s ≡ true) where
       (lines_at keyed j h (at 0) ∙ e ∙ sym (lines_at keyed k g (at 0)))
 
   -- The row of a cell that is found has one more.
-  pub counted-more : {l : List Cell} {n : ℕ} {e : ℕ → Cell} (counts : List ℕ) (i j : ℕ) → Lines l n e → i < n → m ≤ length counts → Found j ≡ place_of below K (e i)
+  pub counted-more : {l : List Cell} {n : ℕ} {e : ℕ → Cell} (counts : List ℕ) (i j : ℕ) → Lines l n e → i < n → m ≤ length counts → Ok j ≡ place_of below K (e i)
       → Counted (take i l) at m counts → Counted (take (i + 1) l) at m (set counts j (get_or counts j 0 + 1))
   counted-more {l} {n} {e} counts i j r h fit f q = record { is = now }
     where

@@ -1,8 +1,9 @@
 -- Laws of keeping each grid's last record.
+use Rattle.std.specs.Prelude.{Ok, Err}
+use Rattle.settings.specs.Answers.{Keeping}
+use Rattle.settings.specs.declared.kinds.ReadError.TheVariants as reading_error
 use Rattle.std.specs.Prelude.{ℕ, ◌+◌, ◌-◌, ◌<◌, ◌≤◌, ◌≡◌, refl, Bool, true, false, cond, ◌||◌, List, [], ◌∷◌, ◌++◌, length, take, drop, replicate, ltb, eqb}
 use Rattle.std.proofs.Common.{arith, sym, ap, ◌∙◌, subst, ltb-true, ltb-false, lt-ltb, le-ltb, eqb-true, length-append, take_at, drop_at, length-take-le}
-use Rattle.settings.specs.declared.kinds.Keeping.{Keeping}
-use Rattle.settings.specs.declared.kinds.Keeping.TheVariants as keeping
 use Rattle.settings.specs.Records.{grid_of}
 use Rattle.settings.specs.Parsing.{Records, whole, faulty, records_of}
 use Rattle.settings.specs.Reading.{last_of, shown, tell, read_of}
@@ -102,7 +103,7 @@ pub record Kept (s : List ℕ) (n : ℕ) (t : List ℕ) (m : ℕ) (u v : List �
   pub slice : u ≡ filled (joined (keep_last records)) s n
   pub scratch : v ≡ replicate (length t) 0
 
-keep-over : (s : List ℕ) (n : ℕ) (t : List ℕ) → length s < n → keep_of s n t ≡ (keeping.Overlong, s, t)
+keep-over : (s : List ℕ) (n : ℕ) (t : List ℕ) → length s < n → keep_of s n t ≡ (Err reading_error.Overlong, s, t)
 unfolding keep_of
 keep-over s n t h = simp (lt-ltb (length s) n h)
 
@@ -111,9 +112,9 @@ unfolding keep_of
 keep-in s n t h e = simp (le-ltb (length s) n h) (ap (keep_whole s n t) e)
 
 module _ (s : List ℕ) (n : ℕ) (t : List ℕ) (m : ℕ) (u v : List ℕ) where
-  kept_whole : n ≤ length s → (r : Records) → records_of true (take n s) ≡ r → keep_whole s n t r ≡ (keeping.Length m, u, v) → Kept s n t m u v
+  kept_whole : n ≤ length s → (r : Records) → records_of true (take n s) ≡ r → keep_whole s n t r ≡ (Ok m, u, v) → Kept s n t m u v
   kept_whole h (whole rs) e d =
-      let p : keeping.Length (length (joined (keep_last rs))) ≡ keeping.Length m = ap (λ (q : Keeping × List ℕ × List ℕ). q.0) d in
+      let p : Ok (length (joined (keep_last rs))) ≡ Ok m = ap (λ (q : Keeping × List ℕ × List ℕ). q.0) d in
       record {
         within = h;
         records = rs;
@@ -123,18 +124,18 @@ module _ (s : List ℕ) (n : ℕ) (t : List ℕ) (m : ℕ) (u v : List ℕ) wher
         scratch = sym (ap (λ (q : Keeping × List ℕ × List ℕ). q.2) d);
       }
   kept_whole h (faulty f p) e d =
-      let q : keeping.Faulty f p ≡ keeping.Length m = ap (λ (q : Keeping × List ℕ × List ℕ). q.0) d in
+      let q : Err (reading_error.Faulty f p) ≡ Ok m = ap (λ (q : Keeping × List ℕ × List ℕ). q.0) d in
       let z : ◌≡◌ {A = ℕ} 0 1 = cc in absurd (omega arith)
 
-  kept_by : (b : Bool) → ltb (length s) n ≡ b → keep_of s n t ≡ (keeping.Length m, u, v) → Kept s n t m u v
+  kept_by : (b : Bool) → ltb (length s) n ≡ b → keep_of s n t ≡ (Ok m, u, v) → Kept s n t m u v
   kept_by true e d =
-      let q : keeping.Overlong ≡ keeping.Length m = ap (λ (q : Keeping × List ℕ × List ℕ). q.0) (sym (keep-over s n t (ltb-true (length s) n e)) ∙ d) in
+      let q : Err reading_error.Overlong ≡ Ok m = ap (λ (q : Keeping × List ℕ × List ℕ). q.0) (sym (keep-over s n t (ltb-true (length s) n e)) ∙ d) in
       let z : ◌≡◌ {A = ℕ} 0 1 = cc in absurd (omega arith)
   kept_by false e d =
       let h = ltb-false (length s) n e in
       kept_whole h (records_of true (take n s)) refl (sym (keep-in s n t h refl) ∙ d)
 
-  pub kept : keep_of s n t ≡ (keeping.Length m, u, v) → Kept s n t m u v
+  pub kept : keep_of s n t ≡ (Ok m, u, v) → Kept s n t m u v
   kept d = kept_by (ltb (length s) n) refl d
 
   module _ (k : Kept s n t m u v) where
@@ -187,9 +188,9 @@ module _ (s : List ℕ) (n : ℕ) (t : List ℕ) (m : ℕ) (u v : List ℕ) wher
         ∙ ap (λ (l : List ℕ). b ++ l) (ap (drop m) k.slice ∙ drop_at b behind m (sym c))
         ∙ sym k.slice
 
-    pub kept_again : (w : List ℕ) → keep_of u m w ≡ (keeping.Length m, u, replicate (length w) 0)
+    pub kept_again : (w : List ℕ) → keep_of u m w ≡ (Ok m, u, replicate (length w) 0)
     kept_again w =
         let e : joined (keep_last (keep_last k.records)) ≡ b = ap joined (keep-twice k.records) in
         keep-in u m w long read_kept
-        ∙ ap (λ (x : List ℕ). (keeping.Length (length x), filled x u m, replicate (length w) 0)) e
-        ∙ (λ j. (keeping.Length (sym k.count j), filled-again j, replicate (length w) 0))
+        ∙ ap (λ (x : List ℕ). (Ok (length x), filled x u m, replicate (length w) 0)) e
+        ∙ (λ j. (Ok (sym k.count j), filled-again j, replicate (length w) 0))

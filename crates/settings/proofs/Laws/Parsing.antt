@@ -1,12 +1,12 @@
 -- What bytes are, a record at a time; and that bytes are whole records just where they are records one behind the other.
+use Rattle.std.specs.Prelude.{Ok, Err}
+use Rattle.settings.specs.Answers.{Check}
 use Rattle.std.specs.Prelude.{ℕ, zero, suc, ◌+◌, ◌-◌, ◌<◌, ◌≤◌, Bool, length, drop}
 use Rattle.std.proofs.Common.{arith, ◌∙◌, eq-eqb, ne_eqb, length-append, length-drop, take-append-drop, take_at, drop_at, length-take-le}
 use Rattle.std.proofs.Math.Path.{◌≡◌, refl, sym, ap}
 use mathlib.Core.List.{List, [], ◌∷◌, ◌++◌, append_assoc}
 use Rattle.std.proofs.Math.ListN.{take}
 use Rattle.settings.specs.declared.kinds.Fault.{Fault}
-use Rattle.settings.specs.declared.kinds.Check.{Check}
-use Rattle.settings.specs.declared.kinds.Check.TheVariants.{Fine, Bad}
 use Rattle.settings.specs.Records.{size_of, check_of}
 use Rattle.settings.specs.Parsing.{Records, whole, faulty, after, parse}
 use Rattle.settings.specs.Keeping.{joined}
@@ -23,11 +23,11 @@ module _ (two : Bool) where
   unfolding parse
   turn-none k at b h = simp (eq-eqb (length b) 0 h)
 
-  turn-bad : (k at : ℕ) (b : List ℕ) {f : Fault} → 0 < length b → check_of two b ≡ Bad f → parse two (suc k) at b ≡ faulty f at
+  turn-bad : (k at : ℕ) (b : List ℕ) {f : Fault} → 0 < length b → check_of two b ≡ Err f → parse two (suc k) at b ≡ faulty f at
   unfolding parse
   turn-bad k at b h e = simp (ne_eqb (length b) 0 (omega arith), e)
 
-  turn_more : (k at : ℕ) (b : List ℕ) → 0 < length b → check_of two b ≡ Fine
+  turn_more : (k at : ℕ) (b : List ℕ) → 0 < length b → check_of two b ≡ Ok tt
       → parse two (suc k) at b ≡ after (take (size_of b) b) (parse two k (at + size_of b) (drop (size_of b) b))
   unfolding parse
   turn_more k at b h e = simp (ne_eqb (length b) 0 (omega arith), e)
@@ -37,7 +37,7 @@ module _ (two : Bool) where
   no-turn at b = refl
 
   -- A record takes bytes away.
-  pub shorter : (b : List ℕ) → check_of two b ≡ Fine → length (drop (size_of b) b) < length b
+  pub shorter : (b : List ℕ) → check_of two b ≡ Ok tt → length (drop (size_of b) b) < length b
   shorter b e =
       let p = fine-parts two b e in
       let m = p.marked in
@@ -48,8 +48,8 @@ module _ (two : Bool) where
   same_by : (j k at : ℕ) (b : List ℕ) → 0 < length b → length b ≤ suc j → length b ≤ suc k
       → ((at : ℕ) (b : List ℕ) → length b ≤ j → length b ≤ k → parse two j at b ≡ parse two k at b)
       → (c : Check) → check_of two b ≡ c → parse two (suc j) at b ≡ parse two (suc k) at b
-  same_by j k at b h p q r (Bad f) e = turn-bad j at b h e ∙ sym (turn-bad k at b h e)
-  same_by j k at b h p q r Fine e =
+  same_by j k at b h p q r (Err f) e = turn-bad j at b h e ∙ sym (turn-bad k at b h e)
+  same_by j k at b h p q r (Ok tt) e =
       let l = shorter b e in
       turn_more j at b h e
       ∙ ap (after (take (size_of b) b)) (r (at + size_of b) (drop (size_of b) b) (omega arith) (omega arith))
@@ -68,14 +68,14 @@ module _ (two : Bool) where
   from-none at b h = ap (λ (k : ℕ). parse two k at b) h ∙ no-turn at b
 
   -- Bytes whose first record is bad have its fault.
-  pub from-bad : (at : ℕ) (b : List ℕ) {f : Fault} → 0 < length b → check_of two b ≡ Bad f → from two at b ≡ faulty f at
+  pub from-bad : (at : ℕ) (b : List ℕ) {f : Fault} → 0 < length b → check_of two b ≡ Err f → from two at b ≡ faulty f at
   from-bad at b h e =
       let k = length b - 1 in
       let s : length b ≡ suc k = omega arith in
       ap (λ (n : ℕ). parse two n at b) s ∙ turn-bad k at b h e
 
   -- Bytes whose first record is fine are that record and what is behind it.
-  pub from_more : (at : ℕ) (b : List ℕ) → 0 < length b → check_of two b ≡ Fine
+  pub from_more : (at : ℕ) (b : List ℕ) → 0 < length b → check_of two b ≡ Ok tt
       → from two at b ≡ after (take (size_of b) b) (from two (at + size_of b) (drop (size_of b) b))
   from_more at b h e =
       let k = length b - 1 in
@@ -113,7 +113,7 @@ module _ (two : Bool) where
   sound_none [] e = (none, sym joined-none)
   sound_none (r ∷ rs) e = let z : ◌≡◌ {A = ℕ} 0 1 = cc in absurd (omega arith)
 
-  sound_more : (b : List ℕ) (rs qs : List (List ℕ)) → check_of two b ≡ Fine → rs ≡ take (size_of b) b ∷ qs → Sound two (drop (size_of b) b) qs → Sound two b rs
+  sound_more : (b : List ℕ) (rs qs : List (List ℕ)) → check_of two b ≡ Ok tt → rs ≡ take (size_of b) b ∷ qs → Sound two (drop (size_of b) b) qs → Sound two b rs
   unfolding Sound
   sound_more b rs qs e f s =
       let r = take (size_of b) b in
@@ -122,8 +122,8 @@ module _ (two : Bool) where
   sound-by : (k at : ℕ) (b : List ℕ) (rs : List (List ℕ)) → 0 < length b → length b ≤ suc k
       → ((at : ℕ) (b : List ℕ) (rs : List (List ℕ)) → length b ≤ k → from two at b ≡ whole rs → Sound two b rs)
       → (c : Check) → check_of two b ≡ c → from two at b ≡ whole rs → Sound two b rs
-  sound-by k at b rs h l r (Bad f) e w = faulty-whole (sym (from-bad two at b h e) ∙ w)
-  sound-by k at b rs h l r Fine e w =
+  sound-by k at b rs h l r (Err f) e w = faulty-whole (sym (from-bad two at b h e) ∙ w)
+  sound-by k at b rs h l r (Ok tt) e w =
       let m = behind (take (size_of b) b) (from two (at + size_of b) (drop (size_of b) b)) rs (sym (from_more two at b h e) ∙ w) in
       let d = shorter two b e in
       sound_more b rs m.0 e m.2 (r (at + size_of b) (drop (size_of b) b) m.0 (omega arith) m.1)
@@ -166,14 +166,14 @@ after-faulty r (whole qs) e = whole-faulty e
 after-faulty r (faulty g q) e = e
 
 module _ (two : Bool) (f : Fault) (p : ℕ) where
-  first-here : (at : ℕ) (b : List ℕ) (g : Fault) → 0 < length b → check_of two b ≡ Bad g → faulty g at ≡ faulty f p → FirstFault two at b f p
+  first-here : (at : ℕ) (b : List ℕ) (g : Fault) → 0 < length b → check_of two b ≡ Err g → faulty g at ≡ faulty f p → FirstFault two at b f p
   first-here at b g h e d =
       let i = faulty-inj d in
       let l : length (joined []) ≡ 0 = ap length joined-none in
       let j = i.1 in
-      record { before = []; behind = b; fine = none; same = sym (ap (λ (x : List ℕ). x ++ b) joined-none); place = omega arith; some = h; fault = e ∙ ap Bad i.0 }
+      record { before = []; behind = b; fine = none; same = sym (ap (λ (x : List ℕ). x ++ b) joined-none); place = omega arith; some = h; fault = e ∙ ap Err i.0 }
 
-  first-later : (at : ℕ) (b : List ℕ) → check_of two b ≡ Fine → FirstFault two (at + size_of b) (drop (size_of b) b) f p → FirstFault two at b f p
+  first-later : (at : ℕ) (b : List ℕ) → check_of two b ≡ Ok tt → FirstFault two (at + size_of b) (drop (size_of b) b) f p → FirstFault two at b f p
   first-later at b e x =
       let r = take (size_of b) b in
       let q = fine-parts two b e in
@@ -197,8 +197,8 @@ module _ (two : Bool) (f : Fault) (p : ℕ) where
 
   first_by : (k at : ℕ) (b : List ℕ) → 0 < length b → length b ≤ suc k → ((at : ℕ) (b : List ℕ) → length b ≤ k → from two at b ≡ faulty f p → FirstFault two at b f p)
       → (c : Check) → check_of two b ≡ c → from two at b ≡ faulty f p → FirstFault two at b f p
-  first_by k at b h l i (Bad g) e w = first-here at b g h e (sym (from-bad two at b h e) ∙ w)
-  first_by k at b h l i Fine e w =
+  first_by k at b h l i (Err g) e w = first-here at b g h e (sym (from-bad two at b h e) ∙ w)
+  first_by k at b h l i (Ok tt) e w =
       let d = shorter two b e in
       first-later at b e (i (at + size_of b) (drop (size_of b) b) (omega arith) (after-faulty (take (size_of b) b) _ (sym (from_more two at b h e) ∙ w)))
 
@@ -212,7 +212,7 @@ module _ (two : Bool) (f : Fault) (p : ℕ) where
   first-fault at b w = first-within (length b) at b (omega arith) w
 
 -- Bytes behind records with nothing wrong: their first record is asked next.
-pub past : (two : Bool) (at : ℕ) {rs : List (List ℕ)} (b : List ℕ) → Ones two rs → {f : Fault} → 0 < length b → check_of two b ≡ Bad f
+pub past : (two : Bool) (at : ℕ) {rs : List (List ℕ)} (b : List ℕ) → Ones two rs → {f : Fault} → 0 < length b → check_of two b ≡ Err f
     → from two at (joined rs ++ b) ≡ faulty f (at + length (joined rs))
 past two at b none {f} h e =
     let l : length (joined []) ≡ 0 = ap length joined-none in

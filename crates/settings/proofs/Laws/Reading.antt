@@ -1,11 +1,11 @@
 -- Laws of reading: a fault is told for every grid alike, and what is read is told of the records.
+use Rattle.std.specs.Prelude.{Ok, Err, Some, None}
+use Rattle.settings.specs.Answers.{Reading}
+use Rattle.settings.specs.declared.kinds.ReadError.TheVariants as reading_error
 use Rattle.std.specs.Prelude.{ℕ, ◌<◌, ◌≤◌, ◌≡◌, refl, Bool, true, false, cond, ◌||◌, List, [], ◌∷◌, ◌++◌, length, take, T, ltb, eqb}
 use Rattle.std.proofs.Common.{arith, sym, ap, ◌∙◌, subst, ltb-true, ltb-false, lt-ltb, le-ltb, eq-eqb}
 use Rattle.settings.specs.declared.kinds.Settings.{Settings}
 use Rattle.settings.specs.declared.kinds.Fault.{Fault}
-use Rattle.settings.specs.declared.kinds.Check.TheVariants.{Fine}
-use Rattle.settings.specs.declared.kinds.Reading.TheVariants as reading
-use Rattle.settings.specs.declared.kinds.Reading.TheVariants.{Found, NotFound}
 use Rattle.settings.specs.Settings.{good_of}
 use Rattle.settings.specs.Records.{grid_of, settings_of}
 use Rattle.settings.specs.Parsing.{Records, whole, faulty, records_of}
@@ -19,27 +19,27 @@ pub read-in : (two : Bool) (s : List ℕ) (n g : ℕ) → n ≤ length s → rea
 unfolding read_of
 read-in two s n g h = simp (le-ltb (length s) n h)
 
-pub read-over : (two : Bool) (s : List ℕ) (n g : ℕ) → length s < n → read_of two s n g ≡ reading.Overlong
+pub read-over : (two : Bool) (s : List ℕ) (n g : ℕ) → length s < n → read_of two s n g ≡ Err reading_error.Overlong
 unfolding read_of
 read-over two s n g h = simp (lt-ltb (length s) n h)
 
-over-faulty : {f : Fault} {p : ℕ} {A : Type 0} → reading.Overlong ≡ reading.Faulty f p → A
+over-faulty : {f : Fault} {p : ℕ} {A : Type 0} → ◌≡◌ {A = Reading} (Err reading_error.Overlong) (Err (reading_error.Faulty f p)) → A
 over-faulty e = let z : ◌≡◌ {A = ℕ} 0 1 = cc in absurd (omega arith)
 
-told-by : (r : List ℕ) {f : Fault} {p : ℕ} {A : Type 0} (t : Bool) → cond t reading.NotFound (reading.Found (settings_of r)) ≡ reading.Faulty f p → A
+told-by : (r : List ℕ) {f : Fault} {p : ℕ} {A : Type 0} (t : Bool) → ◌≡◌ {A = Reading} (cond t (Ok None) (Ok (Some (settings_of r)))) (Err (reading_error.Faulty f p)) → A
 told-by r true e = let z : ◌≡◌ {A = ℕ} 0 1 = cc in absurd (omega arith)
 told-by r false e = let z : ◌≡◌ {A = ℕ} 0 1 = cc in absurd (omega arith)
 
 -- Of a record that holds no fault is told.
-pub told-not : (r : List ℕ) {f : Fault} {p : ℕ} {A : Type 0} → shown r ≡ reading.Faulty f p → A
+pub told-not : (r : List ℕ) {f : Fault} {p : ℕ} {A : Type 0} → shown r ≡ Err (reading_error.Faulty f p) → A
 told-not r e = told-by r (ltb (length r) 12) e
 
 -- Bytes of which a fault is told have that fault.
-pub tell-faulty : (g : ℕ) (m : Records) {f : Fault} {p : ℕ} → tell g m ≡ reading.Faulty f p → m ≡ faulty f p
+pub tell-faulty : (g : ℕ) (m : Records) {f : Fault} {p : ℕ} → tell g m ≡ Err (reading_error.Faulty f p) → m ≡ faulty f p
 tell-faulty g (whole rs) e = told-not (last_of g [] rs) e
 tell-faulty g (faulty h q) e = cc
 
-faulty-by : (two : Bool) (s : List ℕ) (n g : ℕ) {f : Fault} {p : ℕ} (t : Bool) → ltb (length s) n ≡ t → read_of two s n g ≡ reading.Faulty f p
+faulty-by : (two : Bool) (s : List ℕ) (n g : ℕ) {f : Fault} {p : ℕ} (t : Bool) → ltb (length s) n ≡ t → read_of two s n g ≡ Err (reading_error.Faulty f p)
     → (n ≤ length s) × (records_of two (take n s) ≡ faulty f p)
 faulty-by two s n g true e d = over-faulty (sym (read-over two s n g (ltb-true (length s) n e)) ∙ d)
 faulty-by two s n g false e d =
@@ -47,16 +47,16 @@ faulty-by two s n g false e d =
     (h, tell-faulty g (records_of two (take n s)) (sym (read-in two s n g h) ∙ d))
 
 -- A slice of which a fault is told has that fault.
-pub read-faulty : (two : Bool) (s : List ℕ) (n g : ℕ) {f : Fault} {p : ℕ} → read_of two s n g ≡ reading.Faulty f p → (n ≤ length s) × (records_of two (take n s) ≡ faulty f p)
+pub read-faulty : (two : Bool) (s : List ℕ) (n g : ℕ) {f : Fault} {p : ℕ} → read_of two s n g ≡ Err (reading_error.Faulty f p) → (n ≤ length s) × (records_of two (take n s) ≡ faulty f p)
 read-faulty two s n g d = faulty-by two s n g (ltb (length s) n) refl d
 
-whole_by : (two : Bool) (s : List ℕ) (n g : ℕ) → n ≤ length s → ((f : Fault) (p : ℕ) → read_of two s n g ≡ reading.Faulty f p → ⊥)
+whole_by : (two : Bool) (s : List ℕ) (n g : ℕ) → n ≤ length s → ((f : Fault) (p : ℕ) → read_of two s n g ≡ Err (reading_error.Faulty f p) → ⊥)
     → (m : Records) → records_of two (take n s) ≡ m → (rs : List (List ℕ)) × (records_of two (take n s) ≡ whole rs)
 whole_by two s n g h z (whole rs) e = (rs, e)
 whole_by two s n g h z (faulty f p) e = absurd (z f p (read-in two s n g h ∙ ap (tell g) e))
 
 -- A slice of which no fault is told is whole records.
-pub read_whole : (two : Bool) (s : List ℕ) (n g : ℕ) → n ≤ length s → ((f : Fault) (p : ℕ) → read_of two s n g ≡ reading.Faulty f p → ⊥)
+pub read_whole : (two : Bool) (s : List ℕ) (n g : ℕ) → n ≤ length s → ((f : Fault) (p : ℕ) → read_of two s n g ≡ Err (reading_error.Faulty f p) → ⊥)
     → (rs : List (List ℕ)) × (records_of two (take n s) ≡ whole rs)
 read_whole two s n g h z = whole_by two s n g h z (records_of two (take n s)) refl
 
@@ -100,7 +100,7 @@ one-among (q ∷ front) r behind (more o os) = one-among front r behind os
 
 -- What is said of a record that is long enough has nothing wrong.
 Sayable : List ℕ → Type 0
-Sayable r = 12 ≤ length r → good_of (settings_of r) ≡ Fine
+Sayable r = 12 ≤ length r → good_of (settings_of r) ≡ Ok tt
 
 sayable-by : (r h : List ℕ) (t : Bool) → Sayable r → Sayable h → Sayable (cond t r h)
 sayable-by r h true a b = a
@@ -111,12 +111,12 @@ unfolding last_of Sayable
 sayable-last g h b none = b
 sayable-last g h b (more {r} {rs} o os) = sayable-last g (cond (eqb (grid_of r) g) r h) (sayable-by r h (eqb (grid_of r) g) (λ l. one-good o) b) os
 
-shown_by : (r : List ℕ) (a : Settings) (t : Bool) → ltb (length r) 12 ≡ t → Sayable r → cond t NotFound (Found (settings_of r)) ≡ Found a → good_of a ≡ Fine
+shown_by : (r : List ℕ) (a : Settings) (t : Bool) → ltb (length r) 12 ≡ t → Sayable r → ◌≡◌ {A = Reading} (cond t (Ok None) (Ok (Some (settings_of r)))) (Ok (Some a)) → good_of a ≡ Ok tt
 unfolding Sayable
 shown_by r a true e s d = let z : ◌≡◌ {A = ℕ} 0 1 = cc in absurd (omega arith)
 shown_by r a false e s d = let q : settings_of r ≡ a = cc in ap good_of (sym q) ∙ s (ltb-false (length r) 12 e)
 
 -- What is told as found of whole records has nothing wrong.
-pub shown-good : {two : Bool} (g : ℕ) {rs : List (List ℕ)} (a : Settings) → Ones two rs → shown (last_of g [] rs) ≡ Found a → good_of a ≡ Fine
+pub shown-good : {two : Bool} (g : ℕ) {rs : List (List ℕ)} (a : Settings) → Ones two rs → shown (last_of g [] rs) ≡ Ok (Some a) → good_of a ≡ Ok tt
 unfolding Sayable
 shown-good g {rs} a os d = shown_by (last_of g [] rs) a (ltb (length (last_of g [] rs)) 12) refl (sayable-last g [] (λ l. absurd (omega arith)) os) d

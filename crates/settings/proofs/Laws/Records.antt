@@ -1,4 +1,5 @@
 -- One record: its length by its mark, and what holds of one that is fine.
+use Rattle.std.specs.Prelude.{Ok}
 use Rattle.std.specs.Prelude.{ℕ, ◌<◌, ◌≤◌, ◌≡◌, refl, Bool, true, false, cond, not, ◌&&◌, List, ◌++◌, length, get_or, take, drop, ltb, eqb}
 use Rattle.std.proofs.Common.{arith, sym, ap, ◌∙◌, ltb-false, le-ltb, ne_eqb, length-append, length-drop, take-append-drop, length-take-le, take_at}
 use Rattle.std.proofs.lemmas.Bool.{eqb-false}
@@ -7,7 +8,6 @@ use Rattle.std.proofs.Math.Seq.{take-length}
 use Rattle.std.proofs.lemmas.List.{take-append-le, drop-append-le}
 use Rattle.little_endian.specs.Bytes.{little, bytes}
 use Rattle.settings.specs.declared.kinds.Settings.{Settings}
-use Rattle.settings.specs.declared.kinds.Check.TheVariants.{Fine}
 use Rattle.settings.specs.Settings.{good_of}
 use Rattle.settings.specs.Records.{size_of, grid_of, settings_of, check_of, record_of}
 use Rattle.settings.specs.Whole.{One}
@@ -51,9 +51,9 @@ pub record Parts (two : Bool) (b : List ℕ) : Type 0 where
   pub marked : 0 < size_of b
   pub known : (not two && eqb (size_of b) 24) ≡ false
   pub enough : size_of b ≤ length b
-  pub good : good_of (settings_of (take (size_of b) b)) ≡ Fine
+  pub good : good_of (settings_of (take (size_of b) b)) ≡ Ok tt
 
-pub fine-parts : (two : Bool) (b : List ℕ) → check_of two b ≡ Fine → Parts two b
+pub fine-parts : (two : Bool) (b : List ℕ) → check_of two b ≡ Ok tt → Parts two b
 unfolding check_of
 fine-parts two b e =
     let p = passed _ _ (ltb (length b) 2) e in
@@ -63,7 +63,7 @@ fine-parts two b e =
     let n = eqb-false (size_of b) 0 q.0 in
     record { long = ltb-false (length b) 2 p.0; marked = omega arith; known = r.0; enough = ltb-false (length b) (size_of b) t.0; good = t.1 }
 
-pub parts-fine : (two : Bool) (b : List ℕ) → Parts two b → check_of two b ≡ Fine
+pub parts-fine : (two : Bool) (b : List ℕ) → Parts two b → check_of two b ≡ Ok tt
 unfolding check_of
 parts-fine two b p =
     simp (le-ltb (length b) 2 p.long, ne_eqb (size_of b) 0 (omega arith), p.known, le-ltb (length b) (size_of b) p.enough) p.good
@@ -86,7 +86,7 @@ pub one-sized : {two : Bool} {r : List ℕ} (c : List ℕ) → One two r → siz
 one-sized {two} {r} c o = let h = one_size o in size-front r c (omega arith) ∙ o.sized
 
 -- Bytes that start with one record have nothing wrong.
-pub one-fine : {two : Bool} {r : List ℕ} (c : List ℕ) → One two r → check_of two (r ++ c) ≡ Fine
+pub one-fine : {two : Bool} {r : List ℕ} (c : List ℕ) → One two r → check_of two (r ++ c) ≡ Ok tt
 one-fine {two} {r} c o =
     let p = fine-parts two r o.fine in
     let h = one_size o in
@@ -104,7 +104,7 @@ one-fine {two} {r} c o =
     })
 
 -- The record that bytes with nothing wrong start with.
-pub first_one : (two : Bool) (b : List ℕ) → check_of two b ≡ Fine → One two (take (size_of b) b)
+pub first_one : (two : Bool) (b : List ℕ) → check_of two b ≡ Ok tt → One two (take (size_of b) b)
 first_one two b e =
     let p = fine-parts two b e in
     let k = size_of b in
@@ -125,7 +125,7 @@ first_one two b e =
     }
 
 -- What one record says has nothing wrong.
-pub one-good : {two : Bool} {r : List ℕ} → One two r → good_of (settings_of r) ≡ Fine
+pub one-good : {two : Bool} {r : List ℕ} → One two r → good_of (settings_of r) ≡ Ok tt
 one-good {two} {r} o = ap (λ (t : List ℕ). good_of (settings_of t)) (sym (ap (λ (k : ℕ). take k r) o.sized ∙ take-length r)) ∙ (fine-parts two r o.fine).good
 
 -- The grid is in the first twelve bytes.

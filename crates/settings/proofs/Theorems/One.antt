@@ -1,10 +1,8 @@
 -- Any two answers that the promise of a call allows are equal, with all that was lent.
+use Rattle.settings.specs.Answers.{Reading, Writing, Keeping}
 use Rattle.std.specs.Prelude.{ℕ, ◌≡◌, Bool, List}
 use Rattle.std.proofs.Common.{sym, ◌∙◌}
 use Rattle.settings.specs.declared.kinds.Settings.{Settings}
-use Rattle.settings.specs.declared.kinds.Reading.{Reading}
-use Rattle.settings.specs.declared.kinds.Writing.{Writing}
-use Rattle.settings.specs.declared.kinds.Keeping.{Keeping}
 use Rattle.settings.specs.Reading.{read_of}
 use Rattle.settings.specs.Writing.{write_of}
 use Rattle.settings.specs.Keeping.{keep_of}

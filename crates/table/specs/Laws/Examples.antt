@@ -1,7 +1,7 @@
 -- Tables of two rows, worked out.
 use Rattle.std.specs.Prelude.{ℕ, ◌≡◌, refl, true, false, List, [], ◌∷◌, ltb, eqb}
 use Rattle.model.specs.Lists.{keys, put, drop_key}
-use Rattle.table.specs.declared.Place.TheVariants.{Found, Missing}
+use Rattle.std.specs.Prelude.{Ok, Err}
 use Rattle.table.specs.Rows.{table_of, image_of, is_table_of, table1, image1, is_table1, is_table4, place_of}
 
 -- Two rows of width 2, with space for a third.
@@ -29,12 +29,12 @@ unfolding table_of
 words-rows = refl
 
 -- 6 goes in before 7.
-pub six-missing : place_of ltb (keys (table1 2 2 words)) 6 ≡ Missing 1
+pub six-missing : place_of ltb (keys (table1 2 2 words)) 6 ≡ Err 1
 unfolding table_of
 six-missing = refl
 
 -- 7 stands in row 1.
-pub seven-found : place_of ltb (keys (table1 2 2 words)) 7 ≡ Found 1
+pub seven-found : place_of ltb (keys (table1 2 2 words)) 7 ≡ Ok 1
 unfolding table_of
 seven-found = refl
 

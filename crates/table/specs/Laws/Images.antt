@@ -1,9 +1,9 @@
 -- A table that is written and read again, and words that are read and written again.
 use Prim.Native.Nat.{ℕ, zero, suc, ◌+◌, ◌-◌, ◌*◌, ◌≤◌}
 use Rattle.std.proofs.Common.{mul-suc, mul-zero, arith, sym, ◌∙◌, eqb→eq, le→leb, length-append, length-drop, take_at, drop_at}
-use Rattle.std.specs.Prelude.{◌≡◌, false, ◌&&◌, eqb, drop}
+use Rattle.std.specs.Prelude.{◌≡◌, ◌&&◌, eqb, drop}
 use Rattle.std.proofs.Math.Path.{refl, ap}
-use Rattle.std.proofs.Math.Bool.{Bool, true}
+use Rattle.std.proofs.Math.Bool.{Bool, true, and-true}
 use mathlib.Core.List.{List, [], ◌∷◌, ◌++◌, append_assoc}
 use Rattle.std.proofs.Math.Dec.{T, leb, leb→le}
 use Rattle.std.proofs.Math.ListN.{length, take, replicate, take-append-drop}
@@ -26,10 +26,6 @@ zeros-are (x ∷ l) t = λ i. sym (eqb→eq 0 x (and-fst (eqb 0 x) (are_zero l) 
 pub are-zeros : (m : ℕ) → are_zero (replicate m 0) ≡ true
 are-zeros zero = refl
 are-zeros (suc m) = are-zeros m
-
-and-true : (b : Bool) → (b && true) ≡ b
-and-true true = refl
-and-true false = refl
 
 module _ {K : Type 0} (kind : Kind K) where
   -- What is known of words that are a table's.

@@ -1,12 +1,13 @@
 -- Which words a row and the rows of a table have.
 use Prim.Native.Nat.{ℕ, zero, suc, ◌+◌, ◌*◌, ◌≤◌, ◌<◌}
-use Rattle.std.proofs.Common.{le_of_suc-le-suc, not-suc-le-zero, suc-add, add-zero, zero-add, add_comm, mul-zero, mul-le-mul_left, arith, ◌∙◌, get_or-take, get_or-drop, take-add, drop-drop}
+use Rattle.std.proofs.Common.{le_of_suc-le-suc, not-suc-le-zero, add-zero, add_comm, mul-zero, mul-le-mul_left, arith, ◌∙◌, get_or-take, get_or-drop, take-add, drop-drop}
 use Rattle.std.proofs.Math.Nat.{mul-suc}
 use Rattle.std.specs.Prelude.{◌≡◌, get_or}
 use Rattle.std.proofs.Math.Path.{refl, sym, ap}
 use mathlib.Core.List.{List, [], ◌∷◌, ◌++◌}
 use Rattle.std.proofs.Math.ListN.{length, take, drop, length-drop}
-use Rattle.std.proofs.Math.Seq.{slice, take-nil, length-take-le}
+use Rattle.std.proofs.Math.Seq.{slice, length-take-le}
+use Rattle.std.proofs.lemmas.List.{drop-take}
 use Rattle.model.specs.Lists.{gather, keys}
 use Rattle.component.specs.declared.Cell.{Cell}
 use Rattle.table.specs.Rows.{Kind, number, cell, cell_at, rows_of, entry_of, row_of, table_of, table1, table4}
@@ -39,13 +40,8 @@ word_at w n s i j h k = ap (λ (r : List ℕ). get_or r j 0) (row_at w n s i h) 
 pub rest_at : (w n : ℕ) (s : List ℕ) (i k j : ℕ) → i < n → k + j < w → get_or (drop k (get_or (rows_of w n s) i [])) j 0 ≡ get_or s (w * i + (k + j)) 0
 rest_at w n s i k j h l = get_or-drop k (get_or (rows_of w n s) i []) j 0 ∙ word_at w n s i (k + j) h l
 
-take-drop : (a m : ℕ) (s : List ℕ) → take m (drop a s) ≡ drop a (take (a + m) s)
-take-drop zero m s = ap (λ (k : ℕ). take k s) (sym (zero-add m))
-take-drop (suc a) m [] = take-nil m ∙ ap (λ (l : List ℕ). drop (suc a) l) (sym (take-nil (suc a + m)))
-take-drop (suc a) m (x ∷ s) = take-drop a m s ∙ ap (λ (k : ℕ). drop (suc a) (take k (x ∷ s))) (sym (suc-add a m))
-
 slice-drop : (a f t : ℕ) (l : List ℕ) → slice f t (drop a l) ≡ slice (a + f) (a + t) l
-slice-drop a f t l = ap (λ (r : List ℕ). drop f r) (take-drop a t l) ∙ drop-drop f a (take (a + t) l)
+slice-drop a f t l = ap (λ (r : List ℕ). drop f r) (sym (drop-take a t l)) ∙ drop-drop f a (take (a + t) l)
 
 module _ {K : Type 0} (kind : Kind K) (w : ℕ) where
   -- The table of n rows has n rows.

@@ -1,27 +1,26 @@
 -- The words that are told of a report, as they are made.
-use Rattle.std.specs.Prelude.{ℕ, ◌≡◌, refl, Bool, true, false, not, cond, [], ◌∷◌, ◌++◌, T, Float}
-use Rattle.std.proofs.Common.{sym, ap, true≢false}
-use Rattle.std.specs.Float.{nan, inf, fin, binary64}
-use Rattle.std.specs.Float.Ieee.{ne, is_nan, to_bits}
+use Rattle.std.specs.Prelude.{ℕ, ◌≡◌, refl, Bool, true, false, cond, [], ◌∷◌, ◌++◌, T, Float}
+use Rattle.std.proofs.Common.{sym, ap, subst, ◌∙◌}
+use Rattle.std.specs.Float.{nan, binary64}
+use Rattle.std.specs.Float.Ieee.{ne, to_bits}
+use lib.Ieee.Compare.{differs_from_itself}
 use Rattle.table.specs.Moves.{over}
 use Rattle.metres.specs.declared.Placing.{Placing}
 use Rattle.moves.specs.Words.{move_words, moved}
 use Rattle.telling.specs.Reports.{bits_of}
 
--- What equals itself is no NaN.
-pub no_nan : (x : Float) → ne x x ≡ false → T (not (is_nan x))
-unfolding ne is_nan
-no_nan nan h = absurd (true≢false h)
-no_nan (inf s) h = tt
-no_nan (fin s m e) h = tt
+nan_bits : to_bits binary64 nan ≡ 0x7ff8_0000_0000_0000
+unfolding to_bits
+nan_bits = refl
 
-pub bits-nan : (x : Float) → ne x x ≡ true → 0x7ff8_0000_0000_0000 ≡ bits_of x
+-- The bits of a float, a NaN's those of the quiet one.
+pub bits-are : (x : Float) → to_bits binary64 x ≡ bits_of x
 unfolding bits_of
-bits-nan x h = ap (λ (b : Bool). cond b 0x7ff8_0000_0000_0000 (to_bits binary64 x)) (sym h)
-
-pub bits-own : (x : Float) → ne x x ≡ false → to_bits binary64 x ≡ bits_of x
-unfolding bits_of
-bits-own x h = ap (λ (b : Bool). cond b 0x7ff8_0000_0000_0000 (to_bits binary64 x)) (sym h)
+bits-are x = go (ne x x) refl
+  where
+    go : (b : Bool) → ne x x ≡ b → to_bits binary64 x ≡ cond b 0x7ff8_0000_0000_0000 (to_bits binary64 x)
+    go true h = ap (to_bits binary64) (differs_from_itself x (subst T (sym h) tt)) ∙ nan_bits
+    go false h = refl
 
 -- A move put between the mark of an event and the floats.
 pub words-between : (e : Placing) (a b c d f : ℕ) → (moved (1 ∷ 0 ∷ 0 ∷ 0 ∷ 0 ∷ 0 ∷ a ∷ b ∷ c ∷ d ∷ f ∷ []) 1 e).1 ≡ 1 ∷ (move_words e ++ (a ∷ b ∷ c ∷ d ∷ f ∷ []))

@@ -5,18 +5,18 @@ use Rattle.std.proofs.Common.{sym, eqb→eq}
 use Rattle.std.proofs.Math.Bool.{true, false, cond}
 use Rattle.std.proofs.Math.Dec.{eqb}
 use Rattle.model.proofs.Laws.Tests.{T_true, T_false}
-use Rattle.refusal.specs.declared.Refusal.{Refusal}
+use Rattle.refusal.specs.Forms.{Refused}
 use Rattle.told.specs.Told.{Told, done, too_long, refused, unless, fitted, unless_refused}
 
 -- A lookup is told by the number that refuses it, or by 0.
-pub lookup-number : {B : Type 0} (r : Refusal) (v : B) → (unless r refused (done v)).number ≡ r.number
+pub lookup-number : {B : Type 0} (r : Refused) (v : B) → (unless r refused (done v)).number ≡ r.number
 lookup-number {B} r v = go (eqb r.number 0) refl
   where
     go : (b : Bool) → eqb r.number 0 ≡ b → (cond {A = Told B} b (done v) (refused r)).number ≡ r.number
     go true e = sym (eqb→eq r.number 0 (T_true e))
     go false e = refl
 
-module _ {B : Type 0} (r : Refusal) (v : B) (words answer : List ℕ) where
+module _ {B : Type 0} (r : Refused) (v : B) (words answer : List ℕ) where
   abbrev told : Bool → Bool → Told B × List ℕ
   told b t =
       cond {A = Told B × List ℕ} b

@@ -2,12 +2,12 @@
 use Rattle.std.specs.Prelude.{◌≡◌, eqb}
 use Rattle.std.proofs.Common.{sym, ap, ◌∙◌}
 use Rattle.model.proofs.Laws.Tests.{cond_yes, cond_no, eqb_of, neqb-of}
-use Rattle.refusal.specs.declared.Refusal.{Refusal}
+use Rattle.refusal.specs.Forms.{Refused}
 use Rattle.told.specs.Told.{unless}
 
-module _ {A : Type 0} (no r : Refusal) (refuse : Refusal → A) (answer : A) (e : no ≡ r) where
+module _ {A : Type 0} (no r : Refused) (refuse : Refused → A) (answer : A) (e : no ≡ r) where
   number : no.number ≡ r.number
-  number = ap (λ (x : Refusal). x.number) e
+  number = ap (λ (x : Refused). x.number) e
 
   -- It is refused.
   pub refused-way : (no.number ≡ 0 → ⊥) → refuse no ≡ unless r refuse answer

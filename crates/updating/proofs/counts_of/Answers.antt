@@ -9,10 +9,10 @@ loop-i-preserved c =
     let s = c in
     let l = c.loop-i in
     let v = l.invariant in
-    (omega arith, simp length-set v.1, v.2, v.3, counts-more s.args.crowd.now s.args.n l.counts l.i (omega arith) (omega arith) v.4)
+    (simp length-set v.0, v.1, v.2, counts-more s.args.crowd.now s.args.n l.counts l.i (omega arith) (omega arith) v.3)
 
 pub returns : goal.returns
 returns c =
     let s = c in
     let l = c.loop-i in
-    counts_all s.args.crowd.now s.args.n l.counts l.i (omega arith) l.invariant.4
+    counts_all s.args.crowd.now s.args.n l.counts l.i (omega arith) l.invariant.3

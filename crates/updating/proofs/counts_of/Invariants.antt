@@ -1,5 +1,5 @@
 -- After i rows the first i numbers are written.
-use Prim.Native.Nat.{◌-◌, ◌*◌, ◌≤◌}
+use Prim.Native.Nat.{◌*◌, ◌≤◌}
 use mathlib.Core.Path.{◌≡◌}
 use lib.ListN.{length, take}
 use Rattle.model.specs.Lists.{values}
@@ -9,7 +9,4 @@ use Rattle.updating.proofs.counts_of.Given as goal
 
 abbrev pub invariant-loop-i : goal.invariant-loop-i
 invariant-loop-i l =
-    (l.i ≤ l.n) × (length l.counts ≡ length l.initial.counts) × (crowd_width * l.n ≤ length l.crowd) × (l.n ≤ length l.initial.counts) × (take l.i l.counts ≡ values (take l.i (ids_in l.n l.crowd)))
-
-abbrev pub decreases-loop-i : goal.decreases-loop-i
-decreases-loop-i l = l.n - l.i
+    (length l.counts ≡ length l.initial.counts) × (crowd_width * l.n ≤ length l.crowd) × (l.n ≤ length l.initial.counts) × (take l.i l.counts ≡ values (take l.i (ids_in l.n l.crowd)))

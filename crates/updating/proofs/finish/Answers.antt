@@ -1,4 +1,3 @@
--- `finish` meets its contract.
 -- There is room in the zeros.
 use Prim.Native.Nat.{ℕ, ◌≤◌}
 use native.Mathlib.Omega.{arith}
@@ -24,7 +23,7 @@ regroup_state-g-requires c =
     let s = c in
     let o = play_batch (touch_of (decode s.args.state.now)) s.requires.0 (decode s.args.state.now).occupancy in
     let k = c.counts_of in
-    (o.newly_occupied, o.newly_emptied, o.entities, finish-regroups s.requires.1 (replicate id_space 0) k.new.counts (replicate group_space 0) (zeros-blank id_space) ids-zeros k.ensures (zeros-blank group_space) groups-zeros s.args.kind s.requires.6)
+    (o.newly_occupied, o.newly_emptied, o.entities, finish-regroups s.requires.1 (replicate id_space 0) k.new.counts (replicate group_space 0) (zeros-blank id_space) ids-zeros k.ensures (zeros-blank group_space) groups-zeros s.args.tables.now.kind s.requires.6)
 
 pub write_back-requires : goal.write_back-requires
 write_back-requires c =
@@ -44,9 +43,10 @@ returns c =
     let h = c.header-head in
     let z = c.write_back in
     let k = c.counts_of in
+    let t = a.tables.now in
     λ b f.
     let o = play_batch (touch_of (decode a.state.now)) b (decode a.state.now).occupancy in
-    finish-written f r.new.ids r.new.groups r.result a.kind p.6
-    (r.ensures o.newly_occupied o.newly_emptied o.entities (finish-regroups f (replicate id_space 0) k.new.counts (replicate group_space 0) (zeros-blank id_space) ids-zeros k.ensures (zeros-blank group_space) groups-zeros a.kind p.6))
+    finish-written f r.new.ids r.new.groups r.result a.tables.now.kind p.6
+    (r.ensures o.newly_occupied o.newly_emptied o.entities (finish-regroups f (replicate id_space 0) k.new.counts (replicate group_space 0) (zeros-blank id_space) ids-zeros k.ensures (zeros-blank group_space) groups-zeros a.tables.now.kind p.6))
     p.2 p.3 p.4 p.5 (omega (arith, ids-spare, r.auto.ids, ids-zeros)) (omega (arith, groups-spare, r.auto.groups, groups-zeros))
-    h.result z.new.state h.ensures (z.ensures a.state.now (front_words h.result a.ents.now a.cells.now a.occ.now a.emp.now) c.write_front.ensures)
+    h.result z.new.state h.ensures (z.ensures a.state.now (front_words h.result t.entities.now t.cells.now t.occupied.now t.emptied.now) c.write_front.ensures)

@@ -19,7 +19,8 @@ use Rattle.updating.specs.Known.{Known}
 use Rattle.batch_events.specs.Events.{in_range}
 use Rattle.batch_events.specs.Playing.{Ready}
 use Rattle.updating.specs.Steps.{Finishes}
-use Rattle.updating.specs.Done.{done}
+use Rattle.refusal.specs.Forms.{Refused, plain, none}
+use Rattle.updating.specs.Done.{done, plainly}
 
 -- The three first tests of a batch, and what follows them.
 first_stops : (a b c : Bool) (k m : ℕ) → k ≡ cond a 3 (cond b 4 (cond c 5 0)) → (k ≡ 0 → ⊥) → k ≡ cond a 3 (cond b 4 (cond c 5 m))
@@ -92,19 +93,21 @@ module _ (w : List ℕ) (k : Known w) (b : Batch) where
   pub early-answer : (n : ℕ) → n ≡ early (next_id w) b → (n ≡ 0 → ⊥) → (n, w) ≡ done w (update (decode w) b)
   early-answer n e f = refused (decode w) b w n (early-refuses (decode w) b n (e ∙ early-next) f) f
 
-  module _ (z : early (next_id w) b ≡ 0) (n : ℕ) (e : n ≡ broken_by (touch_at (kind_of w)) (start_batch (decode w).occupancy) (events b)) where
-    number : n ≡ refusal (decode w) b
-    number = e ∙ ap (λ (j : ℕ). broken_by (touch_at j) (start_batch (decode w).occupancy) (events b)) k.stands.kind-is ∙ early-passes (decode w) b (sym early-next ∙ z)
+  module _ (z : early (next_id w) b ≡ 0) {r : Refused} (e : r ≡ plain (broken_by (touch_at (kind_of w)) (start_batch (decode w).occupancy) (events b))) where
+    number : r.number ≡ refusal (decode w) b
+    number = ap (λ (x : Refused). x.number) e ∙ ap (λ (j : ℕ). broken_by (touch_at j) (start_batch (decode w).occupancy) (events b)) k.stands.kind-is ∙ early-passes (decode w) b (sym early-next ∙ z)
 
     -- 6 and 7.
-    pub broken-answer : (n ≡ 0 → ⊥) → (n, w) ≡ done w (update (decode w) b)
-    broken-answer f = refused (decode w) b w n number f
+    pub broken-answer : (r.number ≡ 0 → ⊥) → ◌≡◌ {A = Refused × List ℕ} (r, w) (plainly (done w (update (decode w) b)))
+    broken-answer f =
+        let q : r ≡ plain r.number = e ∙ ap plain (sym (ap (λ (x : Refused). x.number) e)) in
+        (λ i. (q i, w)) ∙ ap plainly (refused (decode w) b w r.number number f)
 
     -- 0: the batch is accepted, and the state is still to be written.
-    pub can-finish : n ≡ 0 → (ents cells crowd occ emp : List ℕ) (c : Counts) → Ready (kind_of w) ents cells crowd occ emp c (occupied (decode w).occupancy) (play_batch (touch_at (kind_of w)) b (decode w).occupancy) → Finishes w ents cells crowd occ emp c b
-    can-finish q ents cells crowd occ emp c r =
-        record { known = k; accepted = number-none (decode w) b (sym q ∙ number); ready = subst (λ (j : ℕ). Ready j ents cells crowd occ emp c (occupied (decode w).occupancy) (play_batch (touch_at j) b (decode w).occupancy)) k.stands.kind-is r }
+    pub can-finish : r.number ≡ 0 → {ents cells crowd occ emp : List ℕ} {c : Counts} → Ready (kind_of w) ents cells crowd occ emp c (occupied (decode w).occupancy) (play_batch (touch_at (kind_of w)) b (decode w).occupancy) → Finishes w ents cells crowd occ emp c b
+    can-finish q {ents} {cells} {crowd} {occ} {emp} {c} x =
+        record { known = k; accepted = number-none (decode w) b (sym q ∙ number); ready = subst (λ (j : ℕ). Ready j ents cells crowd occ emp c (occupied (decode w).occupancy) (play_batch (touch_at j) b (decode w).occupancy)) k.stands.kind-is x }
 
     -- 0: the state is written.
-    pub done-answer : n ≡ 0 → (v : List ℕ) → v ≡ encode (accepted (decode w) b) ++ drop state_len w → (0, v) ≡ done w (update (decode w) b)
-    done-answer q v g = written (decode w) b w (sym q ∙ number) v g
+    pub done-answer : r.number ≡ 0 → {v : List ℕ} → v ≡ encode (accepted (decode w) b) ++ drop state_len w → ◌≡◌ {A = Refused × List ℕ} (none, v) (plainly (done w (update (decode w) b)))
+    done-answer q {v} g = ap plainly (written (decode w) b w (sym q ∙ number) v g)

@@ -1,6 +1,9 @@
--- `update` meets its contract.
+-- `update` meets its contract: each way out is the update's where the tests before it pass.
 use native.Mathlib.Omega.{arith}
-use mathlib.Core.Path.{◌∙◌}
+use mathlib.Core.Path.{refl, ◌∙◌}
+use Rattle.std.proofs.lemmas.Result.{err_from_is_err_and}
+use Rattle.refusal.specs.Forms.{form}
+use Rattle.refusal.proofs.Theorems.{form-refuses}
 use Rattle.layout.proofs.Laws.Cut.{header-fits}
 use Rattle.yard.specs.Laws.Answers.{short-answer, batch-fits, wild-answer, state-known, first-answer, early-none, last-answer}
 use Rattle.yard.proofs.update.Goals as goal
@@ -8,64 +11,46 @@ use Rattle.yard.proofs.update.Goals as goal
 pub returns-then-too_short : goal.returns-then-too_short
 returns-then-too_short c =
     let a = c.args in
-    (λ i. (c.too_short-then-too_short.ensures i, a.state.now))
-    ∙ short-answer a.state.now a.batch.now a.removals a.moves c.too_short.result c.too_short.ensures c.if-too_short.true
+    short-answer a.state.now a.batch.now a.removals a.moves c.too_short.result c.too_short.ensures c.if-too_short.true
 
-pub returns-then-unsound-ne0 : goal.returns-then-unsound-ne0
-returns-then-unsound-ne0 c =
-    let q = c in
-    let a = q.args in
-    let t = q.too_short in
-    let y = q.if-too_short.false in
-    let p = q.consistent-unsound in
-    wild-answer a.state.now a.batch.now a.removals a.moves t.result t.ensures y p.result p.ensures c.if-unsound-ne0.true
+pub returns-in_err-consistent : goal.returns-in_err-consistent
+returns-in_err-consistent c =
+    let a = c.args in
+    let e = c.in_err-consistent.field-0.0 in
+    let p = err_from_is_err_and c.from_residual.result c.from_residual.ensures.1 in
+    rw (p.1, p.2)
+    (wild-answer a.state.now a.batch.now a.removals a.moves c.too_short.result c.too_short.ensures c.if-too_short.false (form e) c.in_err-consistent.ensures (form-refuses e))
 
 pub bounds-state-6 : goal.bounds-state-6
 bounds-state-6 c =
-    let q = c in
-    let a = q.args in
-    let t = q.too_short in
-    let y = q.if-too_short.false in
-    let p = q.consistent-unsound in
-    omega (arith, header-fits a.state.now (state-known a.state.now a.batch.now a.removals a.moves t.result t.ensures y p.result p.ensures c.if-unsound-ne0.false).long)
+    let a = c.args in
+    omega (arith, header-fits a.state.now (state-known a.state.now a.batch.now a.removals a.moves c.too_short.result c.too_short.ensures c.if-too_short.false _ c.in_ok-consistent.ensures refl).long)
 
-pub early_refusal-first-requires : goal.early_refusal-first-requires
-early_refusal-first-requires c =
-    let q = c in
-    let a = q.args in
-    let t = q.too_short in
-    let y = q.if-too_short.false in
-    batch-fits a.state.now a.batch.now a.removals a.moves t.result t.ensures y
+pub early_refusal-requires : goal.early_refusal-requires
+early_refusal-requires c =
+    let a = c.args in
+    batch-fits a.state.now a.batch.now a.removals a.moves c.too_short.result c.too_short.ensures c.if-too_short.false
 
-pub returns-then-first-ne0 : goal.returns-then-first-ne0
-returns-then-first-ne0 c =
-    let q = c in
-    let a = q.args in
-    let t = q.too_short in
-    let y = q.if-too_short.false in
-    let p = q.consistent-unsound in
-    let n = c.early_refusal-first in
-    first-answer a.state.now a.batch.now a.removals a.moves t.result t.ensures y p.result p.ensures c.if-unsound-ne0.false n.result n.ensures c.if-first-ne0.true
+pub returns-in_err-early_refusal : goal.returns-in_err-early_refusal
+returns-in_err-early_refusal c =
+    let a = c.args in
+    let e = c.in_err-early_refusal.field-0.0 in
+    let p = err_from_is_err_and c.from_residual-in_err-early_refusal.result c.from_residual-in_err-early_refusal.ensures.1 in
+    rw (p.1, p.2)
+    (first-answer a.state.now a.batch.now a.removals a.moves c.too_short.result c.too_short.ensures c.if-too_short.false _ c.in_ok-consistent.ensures refl (form e) c.in_err-early_refusal.ensures (form-refuses e))
 
 pub apply_batch-requires : goal.apply_batch-requires
 apply_batch-requires c =
-    let q = c in
-    let a = q.args in
-    let t = q.too_short in
-    let y = q.if-too_short.false in
-    let p = q.consistent-unsound in
-    let n = c.early_refusal-first in
-    let z = c.if-unsound-ne0.false in
-    (state-known a.state.now a.batch.now a.removals a.moves t.result t.ensures y p.result p.ensures z, batch-fits a.state.now a.batch.now a.removals a.moves t.result t.ensures y, early-none a.state.now a.batch.now a.removals a.moves t.result t.ensures y p.result p.ensures z n.result n.ensures c.if-first-ne0.false)
+    let a = c.args in
+    let t = c.too_short in
+    let y = c.if-too_short.false in (
+      state-known a.state.now a.batch.now a.removals a.moves t.result t.ensures y _ c.in_ok-consistent.ensures refl,
+      batch-fits a.state.now a.batch.now a.removals a.moves t.result t.ensures y,
+      early-none a.state.now a.batch.now a.removals a.moves t.result t.ensures y _ c.in_ok-consistent.ensures refl _ c.in_ok-early_refusal.ensures refl,
+    )
 
 pub returns : goal.returns
 returns c =
-    let q = c in
-    let a = q.args in
-    let t = q.too_short in
-    let y = q.if-too_short.false in
-    let p = q.consistent-unsound in
-    let n = c.early_refusal-first in
-    let d = c.apply_batch in
-    (λ i. (c.plain.ensures i, d.new.state))
-    ∙ last-answer a.state.now a.batch.now a.removals a.moves t.result t.ensures y p.result p.ensures c.if-unsound-ne0.false n.result n.ensures c.if-first-ne0.false d.result d.new.state d.ensures
+    let a = c.args in
+    c.apply_batch.ensures
+    ∙ last-answer a.state.now a.batch.now a.removals a.moves c.too_short.result c.too_short.ensures c.if-too_short.false _ c.in_ok-consistent.ensures refl _ c.in_ok-early_refusal.ensures refl _ _ refl

@@ -4,7 +4,7 @@ use Rattle.std.specs.Prelude.{◌≡◌, refl, Bool, true, cond, not, ◌&&◌, 
 use Rattle.std.proofs.Common.{sym, ap, ◌∙◌, eq-eqb, ne_eqb, ltb-false}
 use Rattle.std.proofs.Math.Bool.{false}
 use mathlib.Core.List.{List}
-use Rattle.refusal.specs.declared.Refusal.{Refusal}
+use Rattle.refusal.specs.Forms.{Refused}
 use Rattle.refusal.specs.Forms as form
 use Rattle.refusal.specs.Forms.{none, broken, plain}
 use Rattle.model.specs.Occupancy.{Batch}
@@ -36,7 +36,7 @@ module _ (w b : List ℕ) (r m : ℕ) where
   asked = batch_of b r m
 
   -- What is answered and left, by the two tests.
-  abbrev answer : Bool → Bool → Refusal × List ℕ
+  abbrev answer : Bool → Bool → Refused × List ℕ
   answer short good =
       cond short (form.too_short, w) (cond (not good) (broken (first_broken w), w) (placed_in asked (done w (update (decode w) asked))))
 
@@ -60,11 +60,11 @@ module _ (w b : List ℕ) (r m : ℕ) where
     pub batch-fits : r + move_width * m ≤ length b
     batch-fits = ltb-false (length b) (r + move_width * m) enough.1
 
-    module _ (p : Refusal) (g : p ≡ state_refusal w) where
+    module _ (p : Refused) (g : p ≡ state_refusal w) where
       tested : (t : Bool) → eqb p.number 0 ≡ t → consistent_words w ≡ t
       tested t q =
           sym (ap (λ (l : Bool). l && consistent_words w) enough.0) ∙ sym (consistent-exactly w).zero
-          ∙ ap (λ (k : Refusal). eqb k.number 0) (sym g) ∙ q
+          ∙ ap (λ (k : Refused). eqb k.number 0) (sym g) ∙ q
 
       -- 2 with the first broken point.
       pub wild-answer : (p.number ≡ 0 → ⊥) → (p, w) ≡ update_of w b r m
@@ -87,9 +87,9 @@ module _ (w b : List ℕ) (r m : ℕ) where
         rest-answer : (n : ℕ) (v : List ℕ) → (n, v) ≡ done w (update (decode w) asked) → (batch_refusal asked n, v) ≡ update_of w b r m
         rest-answer n v k = ap (placed_in asked) k ∙ answer-is false true e good
 
-        module _ (q : Refusal) (h : q ≡ batch_refusal asked (early (next_id w) asked)) where
+        module _ (q : Refused) (h : q ≡ batch_refusal asked (early (next_id w) asked)) where
           number_is : q.number ≡ early (next_id w) asked
-          number_is = ap (λ (k : Refusal). k.number) h ∙ early-number (next_id w) asked
+          number_is = ap (λ (k : Refused). k.number) h ∙ early-number (next_id w) asked
 
           -- 3, 4 with its place, and 5.
           pub first-answer : (q.number ≡ 0 → ⊥) → (q, w) ≡ update_of w b r m

@@ -7,7 +7,7 @@ use mathlib.Core.List.{List, ◌++◌}
 use Rattle.std.proofs.Math.Dec.{T}
 use Rattle.std.proofs.Math.ListN.{drop}
 use Rattle.std.proofs.lemmas.Bool.{eqb-false}
-use Rattle.refusal.specs.declared.Refusal.{Refusal}
+use Rattle.refusal.specs.Forms.{Refused}
 use Rattle.refusal.specs.Forms as form
 use Rattle.model.specs.Update.{State, update}
 use Rattle.model.specs.Consistent.{consistent}
@@ -38,7 +38,7 @@ module _ (w b : List ℕ) (removals moves : ℕ) where
   abbrev after : ℕ × State
   after = update (decode w) (batch_of b removals moves)
 
-  abbrev answer : Bool → Bool → Refusal × List ℕ
+  abbrev answer : Bool → Bool → Refused × List ℕ
   answer s c =
       cond s (form.too_short, w)
       (cond (not c) (form.broken (first_broken w), w)
@@ -65,8 +65,8 @@ module _ (w b : List ℕ) (removals moves : ℕ) where
   -- A refusal leaves the words as found.
   pub update-kept : ((update_of w b removals moves).0.number ≡ 0 → ⊥) → (update_of w b removals moves).1 ≡ w
   update-kept f =
-      ap (λ (p : Refusal × List ℕ). p.1) answer-is
-      ∙ left (too_short w b removals moves) (consistent_words w) (λ e. f (ap (λ (p : Refusal × List ℕ). p.0.number) answer-is ∙ e))
+      ap (λ (p : Refused × List ℕ). p.1) answer-is
+      ∙ left (too_short w b removals moves) (consistent_words w) (λ e. f (ap (λ (p : Refused × List ℕ). p.0.number) answer-is ∙ e))
 
   -- The number 0.
   zero : (s c : Bool) → (answer s c).0.number ≡ 0 → (s ≡ false) × (c ≡ true) × (after.0 ≡ 0) × ((answer s c).1 ≡ encode after.1 ++ drop state_len w)
@@ -82,11 +82,11 @@ module _ (w b : List ℕ) (removals moves : ℕ) where
   pub call-done : (update_of w b removals moves).0.number ≡ 0 → Done w b removals moves
   unfolding too_short
   call-done e =
-      let z = zero (too_short w b removals moves) (consistent_words w) (sym (ap (λ (p : Refusal × List ℕ). p.0.number) answer-is) ∙ e) in
+      let z = zero (too_short w b removals moves) (consistent_words w) (sym (ap (λ (p : Refused × List ℕ). p.0.number) answer-is) ∙ e) in
       let l : long_enough w ≡ true = long_of (long_enough w) (ltb (length b) (removals + move_width * moves)) z.0 in
       let c = consistent-image w z.1 l in
       let s : T (consistent after.1) = consistent-update-kind (decode w) (batch_of b removals moves) c.0 z.2 in
-      let v : (update_of w b removals moves).1 ≡ encode after.1 ++ drop state_len w = ap (λ (p : Refusal × List ℕ). p.1) answer-is ∙ z.3 in
+      let v : (update_of w b removals moves).1 ≡ encode after.1 ++ drop state_len w = ap (λ (p : Refused × List ℕ). p.1) answer-is ∙ z.3 in
       record { number = z.2; words = v; sound = s; stands = ap decode v ∙ decode-longer after.1 s (drop state_len w) }
 
   -- Every call on consistent words leaves consistent words.

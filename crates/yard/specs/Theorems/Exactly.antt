@@ -4,7 +4,7 @@ use Rattle.std.proofs.Math.Path.{refl}
 use Rattle.std.proofs.Common.{sym, ◌∙◌, subst}
 use Rattle.std.proofs.Math.Bool.{true, false, cond}
 use mathlib.Core.List.{List}
-use Rattle.refusal.specs.declared.Refusal.{Refusal}
+use Rattle.refusal.specs.Forms.{Refused}
 use Rattle.refusal.specs.Forms as form
 use Rattle.model.specs.Occupancy.{Batch, start_batch, events}
 use Rattle.model.specs.Update.{State, too_many_events, out_of_range, few_ids, touch_of, broken_by, refusal_by, refusal, update}
@@ -41,7 +41,7 @@ module _ (w b : List ℕ) (removals moves : ℕ) where
   unfolding update_of done refusal_by
   number-by = go (too_short w b removals moves) (consistent_words w)
     where
-      go : (t g : Bool) → (cond {A = Refusal × List ℕ} t (form.too_short, w) (cond {A = Refusal × List ℕ} (not g) (form.broken (first_broken w), w) (placed_in asked (done w (update given asked))))).0.number
+      go : (t g : Bool) → (cond {A = Refused × List ℕ} t (form.too_short, w) (cond {A = Refused × List ℕ} (not g) (form.broken (first_broken w), w) (placed_in asked (done w (update given asked))))).0.number
           ≡ cond t 1 (cond (not g) 2 (refusal given asked))
       go true g = refl
       go false false = refl

@@ -4,7 +4,7 @@ use Prim.Native.Nat.{ℕ}
 use Rattle.std.proofs.Common.{arith, sym, ◌∙◌, eqb-true}
 use Rattle.std.specs.Prelude.{◌≡◌, refl, Bool, true, false, cond, not, List, eqb}
 use Rattle.std.proofs.lemmas.Bool.{eqb-false}
-use Rattle.refusal.specs.declared.Refusal.{Refusal}
+use Rattle.refusal.specs.Forms.{Refused}
 use Rattle.refusal.specs.Forms as form
 use Rattle.model.specs.Cells.{Cell}
 use Rattle.model.specs.Occupancy.{Batch}
@@ -19,7 +19,7 @@ use Rattle.yard.specs.Update.{placed_in, update_of}
 use Rattle.yard.specs.Laws.Numbers.{update-not-two, number-stays}
 
 -- A refusal tells its place: of a state the broken point, of moves the bad one.
-pub record Tells (r : Refusal) (point : ℕ) (moves : List (ℕ × Cell)) : Type 0 where
+pub record Tells (r : Refused) (point : ℕ) (moves : List (ℕ × Cell)) : Type 0 where
   pub two : r.number ≡ 2 → (r.at ≡ point) × (r.axis ≡ 0)
   pub four : r.number ≡ 4 → BadMove r.at r.axis moves
   pub others : (r.number ≡ 2 → ⊥) → (r.number ≡ 4 → ⊥) → (r.at ≡ 0) × (r.axis ≡ 0)
@@ -48,7 +48,7 @@ module _ (w b : List ℕ) (removals moves : ℕ) where
       n : ℕ
       n = (update (decode w) (batch_of b removals moves)).0
 
-      go : (s c : Bool) → Tells (cond {A = Refusal × List ℕ} s (form.too_short, w) (cond {A = Refusal × List ℕ} (not c) (form.broken (first_broken w), w) (placed_in (batch_of b removals moves) (done w (update (decode w) (batch_of b removals moves)))))).0 (first_broken w) (batch_of b removals moves).moves
+      go : (s c : Bool) → Tells (cond {A = Refused × List ℕ} s (form.too_short, w) (cond {A = Refused × List ℕ} (not c) (form.broken (first_broken w), w) (placed_in (batch_of b removals moves) (done w (update (decode w) (batch_of b removals moves)))))).0 (first_broken w) (batch_of b removals moves).moves
       go true c = plain-tells 1 (first_broken w) (batch_of b removals moves).moves (λ e. omega arith) (λ e. omega arith)
       go false false = record { two = λ _. (refl, refl); four = λ e. absurd (omega arith); others = λ f _. absurd (f refl) }
       go false true = batch-tells (batch_of b removals moves) n (first_broken w) (update-not-two (decode w) (batch_of b removals moves)) (number-stays (decode w) (batch_of b removals moves))

@@ -6,12 +6,12 @@ pub returns : goal.returns
 unfolding moved_of
 returns c =
     simp (
-      c.word8-entity.ensures,
-      c.word8-grid.ensures,
-      c.widen-x.ensures,
-      c.widen-y.ensures,
-      c.widen-z.ensures,
-      c.word4.ensures.0,
-      c.word4-2.ensures.0,
-      c.word4-3.ensures.0,
+      c.number.ensures.0,
+      c.number-2.ensures.0,
+      c.widen.ensures,
+      c.widen-2.ensures,
+      c.widen-3.ensures,
+      c.number-3.ensures.0,
+      c.number-4.ensures.0,
+      c.number-5.ensures.0,
     )

@@ -12,4 +12,4 @@ returns-then-b-lt24 c = simp (lt-ltb _ _ c.if-b-lt24.true)
 
 pub returns : goal.returns
 unfolding axis_of
-returns c = simp (le-ltb _ _ c.if-b-lt24.false) (given_back (c.unbias.ensures ∙ ap signed_of c.word4.ensures.0) (search rules))
+returns c = simp (le-ltb _ _ c.if-b-lt24.false) (given_back (c.unbias.ensures ∙ ap signed_of c.number.ensures.0) (search rules))

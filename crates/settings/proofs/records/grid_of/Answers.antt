@@ -4,4 +4,4 @@ use Rattle.settings.proofs.records.grid_of.Goals as goal
 
 pub returns : goal.returns
 unfolding grid_of
-returns c = c.word8.ensures
+returns c = c.number.ensures.0

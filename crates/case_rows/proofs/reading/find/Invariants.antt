@@ -1,9 +1,0 @@
--- The measure is how many bytes are left.
-use Rattle.std.proofs.Common.{◌-◌, ◌≤◌, length}
-use Rattle.case_rows.proofs.reading.find.Given as goal
-
-abbrev pub invariant-loop-i : goal.invariant-loop-i
-invariant-loop-i l = l.i ≤ length l.text
-
-abbrev pub decreases-loop-i : goal.decreases-loop-i
-decreases-loop-i l = length l.text - l.i

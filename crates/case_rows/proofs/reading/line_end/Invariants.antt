@@ -1,9 +1,0 @@
--- The place does not fall below where the line begins; the measure is how many bytes are left.
-use Rattle.std.proofs.Common.{◌-◌, ◌≤◌, length}
-use Rattle.case_rows.proofs.reading.line_end.Given as goal
-
-abbrev pub invariant-loop-i : goal.invariant-loop-i
-invariant-loop-i l = (l.from ≤ l.i) × (l.i ≤ length l.text)
-
-abbrev pub decreases-loop-i : goal.decreases-loop-i
-decreases-loop-i l = length l.text - l.i

@@ -1,9 +1,0 @@
--- The end never lies behind the line; the measure is how many bytes stand before it.
-use Rattle.std.proofs.Common.{◌≤◌, length}
-use Rattle.case_rows.proofs.reading.without_spaces.Given as goal
-
-abbrev pub invariant-loop-n : goal.invariant-loop-n
-invariant-loop-n l = l.n ≤ length l.line
-
-abbrev pub decreases-loop-n : goal.decreases-loop-n
-decreases-loop-n l = l.n

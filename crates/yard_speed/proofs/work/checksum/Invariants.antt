@@ -1,9 +1,0 @@
--- The measure is the words that are left.
-use Rattle.std.proofs.Common.{◌-◌}
-use Rattle.yard_speed.proofs.work.checksum.Given as goal
-
-abbrev pub invariant-loop-i : goal.invariant-loop-i
-invariant-loop-i l = Unit {0}
-
-abbrev pub decreases-loop-i : goal.decreases-loop-i
-decreases-loop-i l = 100000 - l.i
