@@ -2,20 +2,17 @@
 // broken point, a cell out of range by 4 with its position and axis, and an answer longer than the slice for it by 8, in that order.
 #![tactic(auto)]
 
-ghost use Rattle.std.specs.Prelude.{◌≡◌, ◌≤◌};
-ghost use Rattle.model.specs.Update.{most_cells};
-ghost use Rattle.layout.specs.Rows.{cells_in};
-ghost use Rattle.layout.specs.State.{decode, cell_words, cell_count};
-ghost use Rattle.neighbourhood.specs.Standing.{Cells};
+ghost use Rattle.std.specs.Prelude.{◌≡◌, IfOk};
 ghost use Rattle.refusal.specs.Forms.{outcome};
 ghost use Rattle.told.specs.Told.{told_of, found_told};
+ghost use Rattle.consistent.specs.Answer.{passed};
 ghost use Rattle.lists.specs.Told.{listing_told};
 ghost use Rattle.floods.specs.Told.{flooding_told};
 ghost use Rattle.ask.specs.Answers.{cell_refusal, cells_refusal, kind_of, where_of, id_of, count_of, group_of, ids_of, occupied_of, emptied_of, entities_of, nearby_of, cube_of, flood_of, path_of};
-ghost use Rattle.ask.specs.Laws.Ways.{Sure, ranged};
+ghost use Rattle.ask.specs.Laws.Ways.{ranged};
 
 use component::CellId;
-use consistent::consistent;
+use consistent::{Checked, checked};
 pub use floods::{Flooded, Visited};
 pub use lists::Listed;
 pub use lookups::{Shown, corners};
@@ -31,48 +28,40 @@ fn in_range(at: u64, cell: CellId) -> Result<(), Refusal>
     Err(Refusal::OutOfRange(at, component::bad_axis(cell.coord)))
 }
 
-// 1 and 2 by the state, and 4 for a cell that is out of range.
-fn cell_refused(state: &[u64], cell: CellId) -> Result<(), Refusal>
-    ensures { outcome result ≡ cell_refusal state.now cell }
+// The state that is asked about a cell: 1 and 2 by the state, and 4 for a cell that is out of range.
+fn checked_at(state: &[u64], cell: CellId) -> Result<Checked<'_>, Refusal>
+    ensures answer { passed result ≡ cell_refusal state.now cell }
+    ensures same { IfOk result (λ s. s.words.now ≡ state.now) }
 {
-    consistent(state)?;
-    in_range(0, cell)
+    let state = checked(state)?;
+    in_range(0, cell)?;
+    Ok(state)
 }
 
 // The same of a first cell, and then 4 for a second one that is out of range.
-fn cells_refused(state: &[u64], from: CellId, to: CellId) -> Result<(), Refusal>
-    ensures { outcome result ≡ cells_refusal state.now from to }
+fn checked_between(state: &[u64], from: CellId, to: CellId) -> Result<Checked<'_>, Refusal>
+    ensures answer { passed result ≡ cells_refusal state.now from to }
+    ensures same { IfOk result (λ s. s.words.now ≡ state.now) }
 {
-    cell_refused(state, from)?;
-    in_range(1, to)
-}
-
-// The rows of the occupied cells, and how many there are.
-fn cells(state: &[u64]) -> (&[u64], usize)
-    requires { Sure state.now }
-    ensures { (result.0.now ≡ cell_words state.now) × (result.1 ≡ cell_count state.now) × Cells (decode state.now).kind result.0.now result.1 (cells_in result.1 result.0.now) × (result.1 ≤ most_cells) }
-{
-    (
-        layout::cell_words(state),
-        layout::count_at(state, layout::CELL_COUNT),
-    )
+    let state = checked_at(state, from)?;
+    in_range(1, to)?;
+    Ok(state)
 }
 
 // What touching means in the state: 6, 18 or 26.
 pub fn kind_of(state: &[u64]) -> Result<u64, Refusal>
     ensures { told_of result ≡ kind_of state.now }
 {
-    consistent(state)?;
-    Ok(state[layout::KIND])
+    let state = checked(state)?;
+    Ok(state.words[layout::KIND])
 }
 
 // Where an entity stands.
 pub fn where_is(state: &[u64], entity: u64) -> Result<Option<CellId>, Refusal>
     ensures { found_told result ≡ where_of state.now entity }
 {
-    consistent(state)?;
-    let rows = layout::entity_words(state);
-    let n = layout::count_at(state, layout::ENTITY_COUNT);
+    let state = checked(state)?;
+    let (rows, n) = state.entities();
     Ok(lookups::find_entity(rows, n, entity))
 }
 
@@ -80,9 +69,8 @@ pub fn where_is(state: &[u64], entity: u64) -> Result<Option<CellId>, Refusal>
 pub fn id_of(state: &[u64], cell: CellId) -> Result<Option<u64>, Refusal>
     ensures { found_told result ≡ id_of state.now cell }
 {
-    cell_refused(state, cell)?;
-    let rows = layout::id_words(state);
-    let n = layout::count_at(state, layout::ID_COUNT);
+    let state = checked_at(state, cell)?;
+    let (rows, n) = state.ids();
     Ok(lookups::find_id(rows, n, component::stored(cell)))
 }
 
@@ -90,8 +78,8 @@ pub fn id_of(state: &[u64], cell: CellId) -> Result<Option<u64>, Refusal>
 pub fn neighbour_count(state: &[u64], cell: CellId) -> Result<Option<u32>, Refusal>
     ensures { found_told result ≡ count_of state.now cell }
 {
-    cell_refused(state, cell)?;
-    let (rows, n) = cells(state);
+    let state = checked_at(state, cell)?;
+    let (rows, n) = state.cells();
     Ok(lookups::find_count(rows, n, component::stored(cell)))
 }
 
@@ -99,9 +87,8 @@ pub fn neighbour_count(state: &[u64], cell: CellId) -> Result<Option<u32>, Refus
 pub fn group(state: &[u64], id: u64) -> Result<Option<Shown>, Refusal>
     ensures { found_told result ≡ group_of state.now id }
 {
-    consistent(state)?;
-    let rows = layout::group_words(state);
-    let n = layout::count_at(state, layout::GROUP_COUNT);
+    let state = checked(state)?;
+    let (rows, n) = state.groups();
     Ok(lookups::find_group(rows, n, id))
 }
 
@@ -109,9 +96,8 @@ pub fn group(state: &[u64], id: u64) -> Result<Option<Shown>, Refusal>
 pub fn ids(state: &[u64], answer: &mut [u64]) -> Result<Listed, Refusal>
     ensures { (listing_told result, answer.new) ≡ ids_of state.now answer.old }
 {
-    consistent(state)?;
-    let rows = layout::group_words(state);
-    let n = layout::count_at(state, layout::GROUP_COUNT);
+    let state = checked(state)?;
+    let (rows, n) = state.groups();
     lists::give_ids(rows, n, answer)
 }
 
@@ -121,9 +107,8 @@ pub fn ids(state: &[u64], answer: &mut [u64]) -> Result<Listed, Refusal>
 pub fn newly_occupied(state: &[u64], answer: &mut [u64]) -> Result<Listed, Refusal>
     ensures { (listing_told result, answer.new) ≡ occupied_of state.now answer.old }
 {
-    consistent(state)?;
-    let rows = layout::occupied_words(state);
-    let n = layout::count_at(state, layout::OCCUPIED_COUNT);
+    let state = checked(state)?;
+    let (rows, n) = state.occupied();
     lists::give_net(rows, n, answer)
 }
 
@@ -131,9 +116,8 @@ pub fn newly_occupied(state: &[u64], answer: &mut [u64]) -> Result<Listed, Refus
 pub fn newly_emptied(state: &[u64], answer: &mut [u64]) -> Result<Listed, Refusal>
     ensures { (listing_told result, answer.new) ≡ emptied_of state.now answer.old }
 {
-    consistent(state)?;
-    let rows = layout::emptied_words(state);
-    let n = layout::count_at(state, layout::EMPTIED_COUNT);
+    let state = checked(state)?;
+    let (rows, n) = state.emptied();
     lists::give_net(rows, n, answer)
 }
 
@@ -141,9 +125,8 @@ pub fn newly_emptied(state: &[u64], answer: &mut [u64]) -> Result<Listed, Refusa
 pub fn entities_in(state: &[u64], cell: CellId, answer: &mut [u64]) -> Result<Listed, Refusal>
     ensures { (listing_told result, answer.new) ≡ entities_of state.now cell answer.old }
 {
-    cell_refused(state, cell)?;
-    let rows = layout::entity_words(state);
-    let n = layout::count_at(state, layout::ENTITY_COUNT);
+    let state = checked_at(state, cell)?;
+    let (rows, n) = state.entities();
     lists::give_entities(rows, n, component::stored(cell), answer)
 }
 
@@ -151,8 +134,8 @@ pub fn entities_in(state: &[u64], cell: CellId, answer: &mut [u64]) -> Result<Li
 pub fn nearby(state: &[u64], cell: CellId, answer: &mut [u64]) -> Result<Listed, Refusal>
     ensures { (listing_told result, answer.new) ≡ nearby_of state.now cell answer.old }
 {
-    cell_refused(state, cell)?;
-    let (rows, n) = cells(state);
+    let state = checked_at(state, cell)?;
+    let (rows, n) = state.cells();
     lists::give_nearby(rows, n, component::stored(cell), answer)
 }
 
@@ -160,8 +143,8 @@ pub fn nearby(state: &[u64], cell: CellId, answer: &mut [u64]) -> Result<Listed,
 pub fn cube(state: &[u64], cell: CellId, radius: u8, answer: &mut [u64]) -> Result<Listed, Refusal>
     ensures { (listing_told result, answer.new) ≡ cube_of state.now cell radius answer.old }
 {
-    cell_refused(state, cell)?;
-    let (rows, n) = cells(state);
+    let state = checked_at(state, cell)?;
+    let (rows, n) = state.cells();
     lists::give_cube(rows, n, component::stored(cell), radius, answer)
 }
 
@@ -175,8 +158,8 @@ pub fn flood(
 ) -> Result<Flooded, Refusal>
     ensures { (flooding_told result, answer.new) ≡ flood_of state.now seed depth budget answer.old }
 {
-    cell_refused(state, seed)?;
-    let (rows, n) = cells(state);
+    let state = checked_at(state, seed)?;
+    let (rows, n) = state.cells();
     floods::give_flood(rows, n, component::stored(seed), depth, budget, answer)
 }
 
@@ -185,8 +168,8 @@ pub fn flood(
 pub fn path(state: &[u64], from: CellId, to: CellId, answer: &mut [u64]) -> Result<Listed, Refusal>
     ensures { (listing_told result, answer.new) ≡ path_of state.now from to answer.old }
 {
-    cells_refused(state, from, to)?;
-    let (rows, n) = cells(state);
+    let state = checked_between(state, from, to)?;
+    let (rows, n) = state.cells();
     lists::give_path(
         rows,
         n,

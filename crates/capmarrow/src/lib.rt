@@ -1,6 +1,7 @@
 // The calls for programs in C and Rust: numbers and slices alone, each slice a pointer and its length. Every function gives back
 // the documents' number; what else is told stands in `told`: of a refusal 0, the place of the fault and its axis, of an answer that is
 // too long 0, the words needed and 0. A `told` that is too short gives 1, and nothing is written.
+// Each call tests `told` at its head by itself, as it writes only behind the test and has its own number of words.
 #![tactic(auto)]
 
 mod reports;

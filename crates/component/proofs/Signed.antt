@@ -8,6 +8,14 @@ use Rattle.component.specs.declared.CellCoord.{CellCoord}
 use Rattle.component.specs.Stored.{bias_by, biased, unbiased}
 use Rattle.component.specs.Laws.Stored.{plus-bias, bias-below, sub-up, sub-down}
 use Rattle.component.specs.Laws.Tests.{le-or-lt}
+use Rattle.std.specs.Ordering.{nat_cmp, int_cmp, is_lt, ordering_then}
+use Rattle.std.proofs.Common.{cond, nat_lt, Less, Equal, Greater, Ordering}
+use Rattle.std.proofs.lemmas.Bool.Decides.{nat_tests}
+use lib.Signed.{mag}
+use Rattle.component.specs.Order.{before, below}
+use Rattle.component.specs.Laws.Stored.{signed-order}
+use Rattle.component.specs.declared.CellId.{CellId}
+use Rattle.component.specs.Stored.{stored, Holds}
 
 -- A call's answer, handed on by its bits.
 pub given_back : {r n : ℤ} → r ≡ n → SFits w32 r → to_z w32 (of_z w32 r) ≡ n
@@ -80,3 +88,28 @@ module _ (n : ℕ) where
 
   pub lowered-back : to_z w64 (of_z w64 (to_z w64 (n % 4294967296) -ℤ pos 2147483648)) ≡ unbiased n
   lowered-back = to_z-of_z {w = w64} lowered-fits ∙ lowered
+
+-- A step of the derived order of numbers is a step of cell order.
+pub step_cmp : (p q : ℕ) (o : Ordering) → is_lt (ordering_then (nat_cmp p q) o) ≡ before p q (is_lt o)
+step_cmp p q o = grind (arith, nat_tests)
+
+-- The same of signed numbers and of their stored forms.
+turned : (p q : ℕ) (o : Ordering) → is_lt (ordering_then (cond (nat_lt p q) Less (cond (nat_lt q p) Greater Equal)) o) ≡ before p q (is_lt o)
+turned p q o = grind (arith, nat_tests)
+
+pub step_int : (m n : ℤ) → mag m < 2147483648 → mag n < 2147483648 → (o : Ordering) → is_lt (ordering_then (int_cmp m n) o) ≡ before (biased m) (biased n) (is_lt o)
+step_int m n h k o =
+    (λ i. is_lt (ordering_then (cond (signed-order m n h k i) Less (cond (signed-order n m k h i) Greater Equal)) o)) ∙ turned (biased m) (biased n) o
+
+-- The derived order of cells by their signed coordinates is cell order.
+pub id_below : (a b : CellId) → Holds a → Holds b
+    → is_lt (ordering_then (nat_cmp a.grid b.grid) (ordering_then (int_cmp a.coord.z b.coord.z) (ordering_then (int_cmp a.coord.y b.coord.y) (int_cmp a.coord.x b.coord.x))))
+    ≡ below (stored a) (stored b)
+id_below a b h k =
+    step_cmp a.grid b.grid _
+    ∙ ap (before a.grid b.grid) (step_int a.coord.z b.coord.z h.z k.z _
+    ∙ ap (before (biased a.coord.z) (biased b.coord.z)) (step_int a.coord.y b.coord.y h.y k.y _
+    ∙ ap (before (biased a.coord.y) (biased b.coord.y)) (last a.coord.x b.coord.x h.x k.x)))
+  where
+    last : (m n : ℤ) → mag m < 2147483648 → mag n < 2147483648 → is_lt (int_cmp m n) ≡ nat_lt (biased m) (biased n)
+    last m n h k = grind (arith, nat_tests)

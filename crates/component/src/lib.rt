@@ -10,12 +10,12 @@ ghost use Rattle.component.specs.Touch.{close, touches};
 ghost use Rattle.component.specs.Around.{step_n, neighbour_at, neighbour_count};
 ghost use Rattle.component.specs.Adjacent.{axis_room, has_room, adjacent_of};
 
-// A cell's place in its grid, by axis.
-#[derive(Clone, Copy, Debug, PartialEq, Eq)]
+// A cell's place in its grid, by axis; z stands first, so that the derived order is cell order.
+#[derive(Clone, Copy, Debug, PartialEq, Eq, PartialOrd, Ord)]
 pub struct CellCoord {
-    pub x: i32,
-    pub y: i32,
     pub z: i32,
+    pub y: i32,
+    pub x: i32,
 }
 
 impl CellCoord {
@@ -123,7 +123,7 @@ pub fn comes_before(a: Cell, b: Cell) -> bool
 }
 
 // A cell: its grid, and its place there.
-#[derive(Clone, Copy, Debug, PartialEq, Eq)]
+#[derive(Clone, Copy, Debug, PartialEq, Eq, PartialOrd, Ord)]
 pub struct CellId {
     pub grid: u64,
     pub coord: CellCoord,
@@ -147,7 +147,7 @@ pub fn unbias(n: u64) -> i32
 pub fn stored_word(n: u64) -> u64
     ensures { result ≡ stored_word n }
 {
-    std::num::wrapping_add_u64(n, 2_147_483_648)
+    n.wrapping_add(2_147_483_648)
 }
 
 // A stored coordinate as a 64-bit word of two's complement.
@@ -259,14 +259,14 @@ impl CellId {
     pub fn eq(self, other: CellId) -> bool
         ensures { result ≡ same (stored self) (stored other) }
     {
-        stored(self) == stored(other)
+        self == other
     }
 
     // Whether this cell comes before the other in cell order.
     pub fn comes_before(self, other: CellId) -> bool
         ensures { result ≡ below (stored self) (stored other) }
     {
-        stored(self) < stored(other)
+        self < other
     }
 }
 

@@ -1,2 +1,4 @@
 pub mod Points
 pub mod Ways
+pub mod Sure
+pub mod Words

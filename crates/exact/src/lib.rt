@@ -8,12 +8,12 @@ ghost use Rattle.std.specs.Float.Ieee.Scale.{finite};
 ghost use Rattle.exact.specs.Units.{exact, nearest};
 ghost use Rattle.exact.specs.Finite.{Finite, Sized};
 
-// Whether x is finite: a NaN or an infinity less itself is a NaN.
+// Whether x is finite: `f64::is_finite`, in the words of the definition.
 pub fn is_finite(x: f64) -> bool
     requires { T (fits binary64 x) }
     ensures { result ≡ finite x }
 {
-    x - x == 0.0
+    x.is_finite()
 }
 
 // a less b with one rounding; a zero is plus zero.
@@ -29,13 +29,10 @@ pub fn less(a: f64, b: f64) -> f64
     d
 }
 
-// x without its sign.
+// x without its sign: `f64::abs`, in exact numbers.
 pub fn size(x: f64) -> f64
     requires { Finite x }
     ensures { Sized x result }
 {
-    if x < 0.0 {
-        return -x;
-    }
-    x
+    x.abs()
 }

@@ -10,6 +10,7 @@ use refusal::Refusal;
 use table::write_zeros;
 
 // A state with no entity, whose first id and kind of touching are given, in the first words of a slice.
+// The kind is a number, as a caller gives it: a number that is no kind is refused.
 pub fn fresh(state: &mut [u64], first_id: u64, kind: u64) -> Result<(), Refusal>
     ensures { (outcome result, state.new) ≡ fresh_of state.old first_id kind }
 {

@@ -45,6 +45,7 @@ fn give(found: bool, count: usize, words: &[u64], answer: &mut [u64]) -> Result<
 }
 
 // The keys of the groups' rows come to stand in words.
+// Here and below an index counts the rows: behind an adapter of `iter_mut` a proof knows the length of the slice alone.
 fn keys_into(rows: &[u64], n: usize, words: &mut [u64])
     requires { (group_width * n ≤ length rows.now) × (n ≤ length words.old) }
     ensures { words.new ≡ over words.old 0 (keys (table1 group_width n rows.now)) }
@@ -159,10 +160,7 @@ fn path_between(
     ensures { (kind : ℕ) → Cells kind cells.now n (cells_in n cells.now) → (listing_told result, answer.new) ≡ path_from (shown_rows kind cells.now (cells_in n cells.now) from to) answer.old }
 {
     let mut words = [0u64; ANSWER_WIDTH * MOST_CELLS];
-    let k = path::path_rows(cells, n, from, to, &mut words);
-    if k == 0 {
-        return Err(Refusal::NoPath);
-    }
+    let k = path::path_rows(cells, n, from, to, &mut words).ok_or(Refusal::NoPath)?;
     give(true, k, &words[..ANSWER_WIDTH * k], answer)
 }
 

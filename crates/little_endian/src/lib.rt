@@ -25,6 +25,7 @@ pub fn put_byte(out: &mut [u8], at: usize, b: u8) -> usize
 }
 
 // The k lowest bytes of a number are put at a place; the place behind them.
+// k is no const parameter up to 8, which would ask more of callers: every k has an answer.
 pub fn put_number(out: &mut [u8], at: usize, k: usize, n: u64) -> usize
     requires { at + k ≤ length out.old }
     ensures { ((result, out.new) ≡ put out.old at (bytes k n)) × (result ≡ at + k) }

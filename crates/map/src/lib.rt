@@ -1,4 +1,5 @@
 // The map in lent memory: where each entity stands, the occupied cells with their masks, how many stand in each, and both net lists.
+// A kind of touching is a number here and not an enum: each answer is promised for every number.
 #![tactic(auto)]
 
 ghost use Rattle.std.specs.Prelude.{◌≡◌, true, false, cond, [], ◌∷◌, ◌++◌, ℕ, suc, ◌+◌, ◌-◌, ◌*◌, ◌≤◌, ◌<◌, length, take, drop, replicate, eqb, ltb};

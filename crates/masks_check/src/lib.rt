@@ -1,5 +1,6 @@
 // Whether each mask has exactly the bits of the occupied cells that touch at a kind.
 // The words of a table and the number of its rows are two arguments, as in `table`.
+// A kind of touching is a number here and not an enum: each answer is promised for every number.
 #![tactic(auto)]
 
 ghost use Rattle.std.specs.Prelude.{◌≡◌, true, ◌+◌, ◌-◌, ◌*◌, ◌≤◌, length};
@@ -20,6 +21,7 @@ use std::cmp::Ordering;
 use table::cell_at;
 
 // The step on an axis from a to b, which are close: 0 down, 1 staying, 2 up.
+// No enum stands for it, a digit of a place in the block of 27, which is counted with.
 fn axis_step(a: u64, b: u64) -> u64
     requires { (a ≤ b + 1) × (b ≤ a + 1) }
     ensures { (result ≡ b + 1 - a) × (result ≤ 2) }

@@ -17,6 +17,7 @@ use exact::{is_finite, less, size};
 use refusal::Refusal;
 
 // A yard's frame: its origin, and the edge of its cells.
+// Here and in a report the coordinates are fields one by one, as the definitions and theorems name them.
 #[derive(Clone, Copy)]
 pub struct Frame {
     pub x: f64,
@@ -158,8 +159,7 @@ fn origin_ok(x: f64) -> bool
 fn edge_ok(e: f64) -> bool
     ensures { result ≡ edge_ok e }
 {
-    (e == 1.0)
-        | ((e == 2.0) | ((e == 4.0) | ((e == 8.0) | ((e == 16.0) | ((e == 32.0) | (e == 64.0))))))
+    [1.0, 2.0, 4.0, 8.0, 16.0, 32.0, 64.0].contains(&e)
 }
 
 // Whether the edge and the origin are ones that are named.

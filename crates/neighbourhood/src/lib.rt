@@ -31,6 +31,7 @@ fn row_of(cells: &[u64], n: usize, c: Cell, near: usize) -> usize
 }
 
 // n after the step d on an axis: one down for 0, the same for 1, one up for 2.
+// No enum stands for d, a digit of a place in the block of 27, which is counted with.
 fn axis_to(n: u64, d: u64) -> u64
     requires { (0 < n + d) × (n + d ≤ 18446744073709551616) }
     ensures { result ≡ n + d - 1 }
@@ -205,6 +206,7 @@ pub fn cube_into(cells: &[u64], n: usize, c: Cell, r: u64, words: &mut [u64], fr
 }
 
 // The cells of the first count rows are written, in their order.
+// The count stands beside the rows, as the clause speaks of the first count rows, and what `floods` promises rests on it.
 pub fn flood_into(cells: &[u64], n: usize, rows: &[u64], count: usize, answer: &mut [u64])
     requires { Queued cells.now n rows.now count × (answer_width * count ≤ length answer.old) }
     ensures { answer.new ≡ filled answer.old (cells_of_rows cells.now rows.now count) }

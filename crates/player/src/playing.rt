@@ -19,6 +19,7 @@ use yard::update;
 const SCRIPT_KIND: u64 = 26;
 
 // Where reading and writing stand between two batches, the number of the next batch, and whether there may be one.
+// `going` is a flag and no Option, as `used` is asked for behind the last batch too.
 #[derive(Clone, Copy, Debug, PartialEq, Eq)]
 pub struct Progress {
     pub reader: Reader,
@@ -36,6 +37,7 @@ fn join(batch: &mut [u64], removals: &[u64], n: usize, moves: &[u64], m: usize)
 }
 
 // The batch updates the state, its removals first; one of which not all events are kept is refused.
+// Words and counts stand apart, as `gather` fills the words and answers the counts.
 fn run(
     state: &mut [u64],
     removals: &[u64; MOST_EVENTS],
@@ -65,6 +67,7 @@ fn last_line(v: Events) -> Line {
 
 // A batch is read and answered. Where reading fails, the lines in the buffer are written out first. After an error the batch may have
 // updated the state, and its lines are not all written.
+// What is lent comes one by one: a struct of it would be made for this call alone.
 fn turn<R: Read, W: Write>(
     from: &mut R,
     to: &mut W,
@@ -98,11 +101,13 @@ fn turn<R: Read, W: Write>(
     };
     Ok(match g.ending {
         Some(Ending::Run) => {
-            let outcome = run(state, &removals, &moves, events);
+            let code = run(state, &removals, &moves, events)
+                .err()
+                .map_or(0, Refusal::number);
             Progress {
                 reader,
                 number: number.wrapping_add(1),
-                used: answer(to, state, output, used, number, outcome)?,
+                used: answer(to, state, output, used, number, code)?,
                 going: true,
             }
         }

@@ -1,4 +1,5 @@
 // The groups of a yard after its events: the cells with an id are regrouped in lent tables, and the group records are built.
+// A kind of touching is a number here and not an enum: each answer is promised for every number.
 #![tactic(auto)]
 
 ghost use Rattle.std.specs.Prelude.{ℕ, List};

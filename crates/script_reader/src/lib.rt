@@ -17,6 +17,7 @@ pub const MOVES_LEN: usize = MOVE_WIDTH * MOST_EVENTS;
 
 // Bytes `at` to `end` of the buffer are still to be read; the buffer's first byte is number `base` of the input; `last` says that the
 // input has no bytes behind the buffer's.
+// `last` is a flag of its own, as `step` takes it beside the bytes.
 #[derive(Clone, Copy, Debug, PartialEq, Eq)]
 pub struct Reader {
     pub at: usize,

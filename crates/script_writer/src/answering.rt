@@ -9,7 +9,6 @@ use layout::{
     CELL_ID, EMPTIED, EMPTIED_COUNT, ID_COUNT, ID_WIDTH, IDS, MOST_CELLS, NET_WIDTH, OCCUPIED,
     OCCUPIED_COUNT, STATE_LEN,
 };
-use refusal::Refusal;
 use std::io;
 use std::io::Write;
 
@@ -55,6 +54,7 @@ fn put_net<W: Write, F: Fn(Place) -> Line>(
 }
 
 // The lines of the n cells with an id, whose rows stand from a place on. After an error some of them may have been put.
+// `put_net` does not do it too: it would take the width of a row, and a closure that reads the state with a fact of where it may.
 fn put_ids<W: Write>(
     to: &mut W,
     state: &[u64],
@@ -80,7 +80,7 @@ fn put_ids<W: Write>(
     Ok(u)
 }
 
-// The lines of a batch: the first alone where it is refused, else those of both net lists and of all cells too. After an error some of
+// The lines of a batch: the first alone where it is refused, by a code that may be any number, else those of both net lists and of all cells too. After an error some of
 // them may have been put.
 pub fn answer<W: Write>(
     to: &mut W,
@@ -88,7 +88,7 @@ pub fn answer<W: Write>(
     output: &mut [u8],
     used: usize,
     number: u64,
-    outcome: Result<(), Refusal>,
+    code: u64,
 ) -> io::Result<usize>
     requires { used ≤ length output.old }
     ensures ok { IfOk result (λ u. u ≤ length output.old) }
@@ -97,9 +97,8 @@ pub fn answer<W: Write>(
     let entered = rows(state[OCCUPIED_COUNT]);
     let left = rows(state[EMPTIED_COUNT]);
     let cells = rows(state[ID_COUNT]);
-    let code = outcome.err().map_or(0, Refusal::number);
     let a = put(to, output, used, Line::Batch(number, code))?;
-    if outcome.is_err() {
+    if code != 0 {
         return Ok(a);
     }
     let b = put_net(to, state, OCCUPIED, entered, Line::Entered, output, a)?;

@@ -63,6 +63,7 @@ fn is_later(bytes: &[u8], t: &[u64], grid: u64) -> bool
 }
 
 // The last record of each grid is moved down behind the one before; the length of them all.
+// Here and in `keep_whole` the length stands beside the slice, since what `keep_last` promises speaks of the whole slice.
 fn gather(s: &mut [u8], n: usize, t: &[u64]) -> usize
     requires { (n ≤ length s.old) × ((rs : List (List ℕ)) × Whole rs (take n s.old) × Known (λ g. mark_of g 0 rs) t.now) }
     ensures { (rs : List (List ℕ)) → Whole rs (take n s.old) → Known (λ g. mark_of g 0 rs) t.now → Gathered (joined (keep_last rs)) s.old n result s.new }
@@ -100,6 +101,7 @@ fn keep_whole(s: &mut [u8], n: usize, scratch: &mut [u64]) -> usize
 
 // Of the first n bytes of a slice, each grid's last record is kept, and the rest of these bytes becomes zero; the new length. The
 // scratch, which makes it fast, becomes zero too.
+// The length stands beside the slice, since one above the slice's has an answer.
 pub fn keep_last(s: &mut [u8], n: usize, scratch: &mut [u64]) -> Result<usize, ReadError>
     ensures { (result, s.new, scratch.new) ≡ keep_of s.old n scratch.old }
 {

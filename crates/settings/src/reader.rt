@@ -7,6 +7,7 @@ use crate::kinds::{ReadError, Settings};
 use crate::records::{check, grid_of, settings_of, size_of};
 
 // What a reader says of bytes that are all records.
+// Whether records of version 2 are read too is a `bool`, as the definition `records_of` has it.
 pub fn read_in(bytes: &[u8], two: bool, grid: u64) -> Result<Option<Settings>, ReadError>
     ensures { result ≡ tell grid (records_of two bytes.now) }
 {

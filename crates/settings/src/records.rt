@@ -104,6 +104,7 @@ pub fn good(s: Settings) -> Result<(), Fault>
 }
 
 // What is wrong with the record that the bytes start with: mark, cut end, edge, kind, origin, in that order.
+// Whether records of version 2 are read too is a `bool`, as the definition `check_of` has it.
 pub fn check(b: &[u8], two: bool) -> Result<(), Fault>
     ensures { result ≡ check_of two b.now }
 {

@@ -6,6 +6,7 @@ use crate::kinds::{Settings, WriteError};
 use crate::records::{good, put_record};
 
 // A record of version 2 is written behind the first n bytes of a slice; the new length.
+// The length stands beside the slice, since one above the slice's has an answer.
 pub fn write(s: &mut [u8], n: usize, grid: u64, settings: Settings) -> Result<usize, WriteError>
     ensures { (result, s.new) ≡ write_of s.old n grid settings }
 {

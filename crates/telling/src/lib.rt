@@ -4,7 +4,7 @@
 mod reports;
 
 ghost use Rattle.std.specs.Prelude.{◌≡◌, List, ℕ, ◌≤◌, length};
-ghost use Rattle.refusal.specs.Forms.{form, outcome};
+ghost use Rattle.refusal.specs.Forms.{placed, form, outcome};
 ghost use Rattle.told.specs.Told.{told_of, found_told};
 ghost use Rattle.lists.specs.Told.{listing_told};
 ghost use Rattle.floods.specs.Told.{flooding_told};
@@ -50,14 +50,22 @@ fn tell(told: &mut [u64], words: &[u64])
     table::write_row(told, 0, words);
 }
 
+// What is told of a number and the place that goes with it; the answer is the number.
+pub fn tell_place(told: &mut [u64], number: u64, at: u64, axis: u64) -> u64
+    requires { 3 ≤ length told.old }
+    ensures { ◌≡◌ {A = ℕ × List ℕ} (result, told.new) (telling (refusal_told (placed number at axis)) told.old) }
+{
+    let words = [0, at, axis];
+    tell(told, &words);
+    number
+}
+
 // What is told of a refusal; the answer is its number.
 pub fn tell_refusal(told: &mut [u64], r: Refusal) -> u64
     requires { 3 ≤ length told.old }
     ensures { ◌≡◌ {A = ℕ × List ℕ} (result, told.new) (telling (refusal_told (form r)) told.old) }
 {
-    let words = [0, r.at(), r.axis()];
-    tell(told, &words);
-    r.number()
+    tell_place(told, r.number(), r.at(), r.axis())
 }
 
 // What is told of a call that gives no more than whether it is refused; the answer is its number.

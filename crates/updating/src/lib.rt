@@ -1,4 +1,5 @@
 // A batch that no early number refuses, played on a consistent state, and the state after it written.
+// A kind of touching is a number here and not an enum: each answer is promised for every number.
 #![tactic(auto)]
 
 ghost use Rattle.std.specs.Prelude.{◌≡◌, List, ◌++◌, ℕ, ◌+◌, ◌*◌, ◌≤◌, length, take, drop};
@@ -31,6 +32,7 @@ use table::write_row;
 use writing::{write_back, write_front};
 
 // The map of a state is copied out, with the number that stand in each cell; both net lists start empty.
+// The three slices come one by one, as `Tables` is made of them only once the counts are known.
 fn open_map(state: &[u64], ents: &mut [u64], cells: &mut [u64], crowd: &mut [u64]) -> Counts
     requires { Known state.now × Blank ents.old × (entities_len ≤ length ents.old) × Blank cells.old × (cells_len ≤ length cells.old) × Blank crowd.old × (crowd_width * most_cells ≤ length crowd.old) }
     ensures { Opened state.now ents.new cells.new crowd.new result }

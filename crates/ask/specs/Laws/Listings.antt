@@ -24,8 +24,9 @@ use Rattle.floods.specs.declared.Visited.{Visited}
 use Rattle.floods.specs.Told.{Depth, flooded, depth_of}
 use Rattle.consistent.specs.Answer.{state_refusal}
 use Rattle.ask.specs.Answers.{cell_refusal, cells_refusal, ids_of, occupied_of, emptied_of, entities_of, nearby_of, cube_of, flood_of, path_of}
-use Rattle.ask.specs.Laws.Ways.{Sure, answered-by}
-use Rattle.ask.specs.Laws.Words.{ok}
+use Rattle.consistent.specs.Laws.Sure.{Sure}
+use Rattle.ask.specs.Laws.Ways.{answered-by}
+use Rattle.consistent.specs.Laws.Words.{ok}
 
 module _ (w answer : List ℕ) (e : none ≡ state_refusal w) where
   abbrev refuse : Refused → Told (Bool × ℕ) × List ℕ

@@ -10,7 +10,7 @@ use Rattle.component.specs.Range.{cell_in_range}
 use Rattle.component.specs.Laws.Range.{range-of-stored}
 use Rattle.refusal.specs.Forms.{Refused}
 use Rattle.refusal.specs.declared.Refusal.{Refusal}
-use Rattle.refusal.specs.Forms.{form, outcome, none, too_short, broken, out_of_range}
+use Rattle.refusal.specs.Forms.{form, none, too_short, broken, out_of_range}
 use Rattle.model.proofs.Laws.Tests.{neqb→ne, T_true, T_false}
 use Rattle.layout.specs.Points.{long_enough, consistent_words, first_broken}
 use Rattle.std.specs.Result.{IsErrAnd}
@@ -22,28 +22,9 @@ use Rattle.lists.specs.Told.{listing_told}
 use Rattle.floods.specs.declared.Visited.{Visited}
 use Rattle.floods.specs.declared.Flooded.{Flooded}
 use Rattle.floods.specs.Told.{flooding_told}
-use Rattle.consistent.specs.Answer.{state_refusal}
+use Rattle.consistent.specs.Answer.{passed, state_refusal}
+use Rattle.consistent.specs.Laws.Sure.{Sure, sure-of}
 use Rattle.ask.specs.Answers.{cell_refusal, cells_refusal}
-
--- What is known of words that are not refused.
-pub record Sure (w : List ℕ) : Type 0 where
-  pub long : long_enough w ≡ true
-  pub good : consistent_words w ≡ true
-
-module _ (w : List ℕ) where
-  -- Words that are not refused are long enough and consistent.
-  pub sure-of : (state_refusal w).number ≡ 0 → Sure w
-  unfolding state_refusal
-  sure-of e = go (long_enough w) (consistent_words w) refl refl e
-    where
-      go : (l c : Bool) → long_enough w ≡ l → consistent_words w ≡ c → (cond (not l) too_short (cond c none (broken (first_broken w)))).number ≡ 0 → Sure w
-      go true true p q e = record { long = p; good = q }
-      go true false p q e = absurd (omega arith)
-      go false c p q e = absurd (omega arith)
-
-  -- The same of words that are let pass.
-  pub sure-by : none ≡ state_refusal w → Sure w
-  sure-by e = sure-of (sym (ap (λ (r : Refused). r.number) e))
 
 -- What the test of a cell's range answers, by its position.
 abbrev ranged_by : ℕ → CellId → Bool → Refused
@@ -84,11 +65,15 @@ module _ {A : Type 0} (s : Refused) (refuse : Refused → A) (answer : A) where
 failed-place : {B : Type 0} (s : Refused) → eqb s.number 8 ≡ false → failed {B = B} s ≡ refused s
 failed-place {B} s h = ap (λ (b : Bool). cond {A = Told B} b (too_long s.at) (refused s)) h
 
+-- A call that ends with a refusal tells it.
+pub ends-with : {A : Type 0} (r : Refusal) (q : Result A Refusal) → IsErrAnd q (λ y. y ≡ r) → passed q ≡ form r
+ends-with r (Ok u) f = absurd f
+ends-with r (Err y) f = ap form f
+
 module _ (s : Refused) (r : Refusal) (e : form r ≡ s) where
   -- A test that ends with the refusal of one that it stands on.
-  pub test-ends : (next : Refused) (q : Result (Unit {0}) Refusal) → IsErrAnd q (λ y. y ≡ r) → outcome q ≡ unless s (λ k. k) next
-  test-ends next (Ok u) f = absurd f
-  test-ends next (Err y) f = ap form f ∙ e ∙ refused-by s (λ k. k) next r e
+  pub test-ends : {A : Type 0} (next : Refused) (q : Result A Refusal) → IsErrAnd q (λ y. y ≡ r) → passed q ≡ unless s (λ k. k) next
+  test-ends next q f = ends-with r q f ∙ e ∙ refused-by s (λ k. k) next r e
 
   module _ {B : Type 0} (h : eqb s.number 8 ≡ false) where
     -- What is told of it.
@@ -125,14 +110,14 @@ range-of w c e = go (eqb (state_refusal w).number 0) (coord_in_range c.coord) re
     go true false p q k = absurd (omega arith)
     go false b p q k = absurd (neqb→ne (state_refusal w).number 0 (T_false p) k)
 
--- The same of one that is let pass.
-pub range-by : (w : List ℕ) (c : CellId) → none ≡ cell_refusal w c → Sure w × (cell_in_range (stored c) ≡ true)
-range-by w c e = range-of w c (sym (ap (λ (x : Refused). x.number) e))
+-- The same of a refusal that is equal.
+pub range-by : (w : List ℕ) (c : CellId) (r : Refused) → r ≡ cell_refusal w c → r.number ≡ 0 → Sure w × (cell_in_range (stored c) ≡ true)
+range-by w c r e h = range-of w c (sym (ap (λ (x : Refused). x.number) e) ∙ h)
 
 -- Words of which two cells are not refused are those of a consistent state.
-pub both-sure : (w : List ℕ) (a b : CellId) → none ≡ cells_refusal w a b → Sure w
+pub both-sure : (w : List ℕ) (a b : CellId) (r : Refused) → r ≡ cells_refusal w a b → r.number ≡ 0 → Sure w
 unfolding cells_refusal
-both-sure w a b e = go (eqb (cell_refusal w a).number 0) refl (sym (ap (λ (x : Refused). x.number) e))
+both-sure w a b r e h = go (eqb (cell_refusal w a).number 0) refl (sym (ap (λ (x : Refused). x.number) e) ∙ h)
   where
     go : (t : Bool) → eqb (cell_refusal w a).number 0 ≡ t → (cond t (ranged 1 b) (cell_refusal w a)).number ≡ 0 → Sure w
     go true p k = (range-of w a (eqb→eq (cell_refusal w a).number 0 (T_true p))).0

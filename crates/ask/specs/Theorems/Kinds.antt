@@ -11,7 +11,7 @@ use Rattle.layout.proofs.Laws.Orderly.{orderly-out}
 use Rattle.told.specs.Told.{Beside, values, needed, place, Told, done, refused}
 use Rattle.consistent.specs.Answer.{state_refusal}
 use Rattle.ask.specs.Answers.{kind_of}
-use Rattle.ask.specs.Laws.Ways.{Sure, sure-of}
+use Rattle.consistent.specs.Laws.Sure.{Sure, sure-of}
 
 -- The number that is given, if one is.
 given : Beside ℕ → ℕ

@@ -9,18 +9,18 @@ use Rattle.consistent.proofs.cells_exact.Goals as goal
 pub cells_right-requires : goal.cells_right-requires
 cells_right-requires c =
     let s = c in
-    let a = asks-cells s.args.state.now s.requires.0 s.requires.1 in
-    let e = ap length c.entity_words-ents.ensures in
-    let n = c.count_at-n.ensures in
-    let f = ap length c.cell_words-cells.ensures in
-    let m = c.count_at-m.ensures in
-    let g = ap length c.id_words-ids.ensures in
+    let a = asks-cells s.args.state.now.words.now s.args.state.now.long s.requires in
+    let e = ap length c.entities-n.ensures.words in
+    let n = c.entities-n.ensures.count in
+    let f = ap length c.cells-m.ensures.words in
+    let m = c.cells-m.ensures.count in
+    let g = ap length c.ids-k.ensures.words in
     (omega (arith, a.0, e, n), omega (arith, a.1, m), omega (arith, a.2, f), omega (arith, a.3, g))
 
 pub returns : goal.returns
 returns c =
-    let w = c.args.state.now in
+    let w = c.args.state.now.words.now in
     c.cells_right.ensures
-    ∙ (λ i. cells_right (c.entity_words-ents.ensures i) (c.count_at-n.ensures i) (c.cell_words-cells.ensures i)
-    (c.count_at-m.ensures i) (c.id_words-ids.ensures i) (c.count_at-k.ensures i))
+    ∙ (λ i. cells_right (c.entities-n.ensures.words i) (c.entities-n.ensures.count i) (c.cells-m.ensures.words i)
+    (c.cells-m.ensures.count i) (c.ids-k.ensures.words i) (c.ids-k.ensures.count i))
     ∙ point2-is w

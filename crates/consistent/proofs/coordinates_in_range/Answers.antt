@@ -12,16 +12,16 @@ pub coordinates_right-requires : goal.coordinates_right-requires
 unfolding net_len
 coordinates_right-requires c =
     let s = c in
-    let w = s.args.state.now in
-    let a = asks-cells w s.requires.0 s.requires.1 in
-    let e = ap length c.entity_words-ents.ensures in
-    let n = c.count_at-n.ensures in
-    (omega (arith, a.0, e, n), ap length c.occupied_words-occ.ensures ∙ occupied-long w s.requires.0, ap length c.emptied_words-emp.ensures ∙ emptied-long w s.requires.0)
+    let w = s.args.state.now.words.now in
+    let a = asks-cells w s.args.state.now.long s.requires in
+    let e = ap length c.entities-n.ensures.words in
+    let n = c.entities-n.ensures.count in
+    (omega (arith, a.0, e, n), ap length c.occupied-k.ensures.words ∙ occupied-long w s.args.state.now.long, ap length c.emptied-l.ensures.words ∙ emptied-long w s.args.state.now.long)
 
 pub returns : goal.returns
 returns c =
-    let w = c.args.state.now in
+    let w = c.args.state.now.words.now in
     c.coordinates_right.ensures
-    ∙ (λ i. coordinates_right (c.entity_words-ents.ensures i) (c.count_at-n.ensures i) (c.occupied_words-occ.ensures i)
-    (c.count_at-k.ensures i) (c.emptied_words-emp.ensures i) (c.count_at-l.ensures i))
+    ∙ (λ i. coordinates_right (c.entities-n.ensures.words i) (c.entities-n.ensures.count i) (c.occupied-k.ensures.words i)
+    (c.occupied-k.ensures.count i) (c.emptied-l.ensures.words i) (c.emptied-l.ensures.count i))
     ∙ point7-is w

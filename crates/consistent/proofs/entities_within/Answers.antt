@@ -8,5 +8,5 @@ pub returns : goal.returns
 returns c =
     let s = c in
     c.entities_right.ensures
-    ∙ (λ i. entities_right (c.spare_words-spare.ensures i) (c.entity_words-ents.ensures i) (c.count_at-n.ensures i) (c.count_at-m.ensures i))
-    ∙ point1-is s.args.state.now s.requires
+    ∙ (λ i. entities_right (c.spare_words-spare.ensures i) (c.entities-n.ensures.words i) (c.entities-n.ensures.count i) (c.cells-m.ensures.count i))
+    ∙ point1-is s.args.state.now.words.now s.args.state.now.long

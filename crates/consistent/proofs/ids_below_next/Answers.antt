@@ -14,17 +14,17 @@ use Rattle.consistent.specs.Laws.Points.{tables, point6-is}
 use Rattle.consistent.proofs.ids_below_next.Goals as goal
 
 pub bounds-state-6 : goal.bounds-state-6
-bounds-state-6 c = let s = c in omega (arith, header-fits s.args.state.now s.requires.0)
+bounds-state-6 c = let s = c in omega (arith, header-fits s.args.state.now.words.now s.args.state.now.long)
 
 pub ids_below-requires : goal.ids_below-requires
 ids_below-requires c =
     let s = c in
-    let w = s.args.state.now in
-    omega (arith, (table-facts cell id_width (id_count w) (id_words w) (tables w s.requires.0 s.requires.1).ids-table).fits, c.count_at-k.ensures, ap length c.id_words-ids.ensures)
+    let w = s.args.state.now.words.now in
+    omega (arith, (table-facts cell id_width (id_count w) (id_words w) (tables w s.args.state.now.long s.requires).ids-table).fits, c.ids-k.ensures.count, ap length c.ids-k.ensures.words)
 
 pub returns : goal.returns
 returns c =
-    let w = c.args.state.now in
+    let w = c.args.state.now.words.now in
     c.ids_below.ensures
-    ∙ (λ i. all (λ g. ltb g (next_id w)) (values (ids_in (c.count_at-k.ensures i) (c.id_words-ids.ensures i))))
+    ∙ (λ i. all (λ g. ltb g (next_id w)) (values (ids_in (c.ids-k.ensures.count i) (c.ids-k.ensures.words i))))
     ∙ point6-is w

@@ -18,10 +18,10 @@ use Rattle.consistent.proofs.ids_shared.Goals as goal
 pub parts_right-requires : goal.parts_right-requires
 parts_right-requires c =
     let s = c in
-    let a = asks-parts s.args.state.now s.requires.0 s.requires.1 s.requires.2 in
-    let f = c.cell_words-cells.ensures in
-    let m = c.count_at-m.ensures in
-    let g = c.id_words-ids.ensures in (
+    let a = asks-parts s.args.state.now.words.now s.args.state.now.long s.requires.0 s.requires.1 in
+    let f = c.cells-m.ensures.words in
+    let m = c.cells-m.ensures.count in
+    let g = c.ids.ensures.words in (
       subst₂ (λ (n : ℕ) (l : List ℕ). HasTable l n) (sym m) (sym f) a.0,
       (λ i. keys (table4 id_width (m i) (g i))) ∙ a.1 ∙ (λ i. keys (table4 cell_width (sym m i) (sym f i))),
       omega (arith, a.2, m, ap length g),
@@ -31,9 +31,9 @@ parts_right-requires c =
 pub returns : goal.returns
 returns c =
     let s = c in
-    let w = s.args.state.now in
-    let m = c.count_at-m.ensures in
-    let f = c.cell_words-cells.ensures in
-    c.parts_right.ensures (kind_of w) (cells_in (cell_count w) (cell_words w)) (subst₂ (λ (n : ℕ) (l : List ℕ). Cells (kind_of w) l n (cells_in (cell_count w) (cell_words w))) (sym m) (sym f) (cells-at-kind w s.requires.0 s.requires.1 s.requires.2))
-    ∙ (λ i. shared_in (touch_at (kind_of w)) (ids_in (m i) (c.id_words-ids.ensures i)))
-    ∙ point4-is w s.requires.0 s.requires.1
+    let w = s.args.state.now.words.now in
+    let m = c.cells-m.ensures.count in
+    let f = c.cells-m.ensures.words in
+    c.parts_right.ensures (kind_of w) (cells_in (cell_count w) (cell_words w)) (subst₂ (λ (n : ℕ) (l : List ℕ). Cells (kind_of w) l n (cells_in (cell_count w) (cell_words w))) (sym m) (sym f) (cells-at-kind w s.args.state.now.long s.requires.0 s.requires.1))
+    ∙ (λ i. shared_in (touch_at (kind_of w)) (ids_in (m i) (c.ids.ensures.words i)))
+    ∙ point4-is w s.args.state.now.long s.requires.0

@@ -12,16 +12,16 @@ use Rattle.consistent.specs.Laws.Points.{tables, point3-is}
 use Rattle.consistent.proofs.masks_exact.Goals as goal
 
 pub bounds-state-7 : goal.bounds-state-7
-bounds-state-7 c = let s = c in omega (arith, header-fits s.args.state.now s.requires.0)
+bounds-state-7 c = let s = c in omega (arith, header-fits s.args.state.now.words.now s.args.state.now.long)
 
 pub masks_right-requires : goal.masks_right-requires
 masks_right-requires c =
     let s = c in
-    (λ i. is_table4 cell_width (c.count_at-m.ensures i) (c.cell_words-cells.ensures i)) ∙ (tables s.args.state.now s.requires.0 s.requires.1).cells-table
+    (λ i. is_table4 cell_width (c.cells-m.ensures.count i) (c.cells-m.ensures.words i)) ∙ (tables s.args.state.now.words.now s.args.state.now.long s.requires).cells-table
 
 pub returns : goal.returns
 returns c =
-    let m = c.count_at-m.ensures in
-    let f = c.cell_words-cells.ensures in
-    let w = c.args.state.now in
+    let m = c.cells-m.ensures.count in
+    let f = c.cells-m.ensures.words in
+    let w = c.args.state.now.words.now in
     c.masks_right.ensures ∙ (λ i. all (row_right (kind_of w) (keys (table4 cell_width (m i) (f i)))) (cells_in (m i) (f i))) ∙ point3-is w

@@ -13,16 +13,16 @@ pub nets_right-requires : goal.nets_right-requires
 unfolding net_len
 nets_right-requires c =
     let s = c in
-    let w = s.args.state.now in (
-      (λ i. is_table4 cell_width (c.count_at-m.ensures i) (c.cell_words-cells.ensures i)) ∙ (tables w s.requires.0 s.requires.1).cells-table,
-      ap length c.occupied_words-occ.ensures ∙ occupied-long w s.requires.0,
-      ap length c.emptied_words-emp.ensures ∙ emptied-long w s.requires.0,
+    let w = s.args.state.now.words.now in (
+      (λ i. is_table4 cell_width (c.cells-m.ensures.count i) (c.cells-m.ensures.words i)) ∙ (tables w s.args.state.now.long s.requires).cells-table,
+      ap length c.occupied-k.ensures.words ∙ occupied-long w s.args.state.now.long,
+      ap length c.emptied-l.ensures.words ∙ emptied-long w s.args.state.now.long,
     )
 
 pub returns : goal.returns
 returns c =
-    let w = c.args.state.now in
+    let w = c.args.state.now.words.now in
     c.nets_right.ensures
-    ∙ (λ i. nets_right (c.cell_words-cells.ensures i) (c.count_at-m.ensures i) (c.occupied_words-occ.ensures i)
-    (c.count_at-k.ensures i) (c.emptied_words-emp.ensures i) (c.count_at-l.ensures i))
+    ∙ (λ i. nets_right (c.cells-m.ensures.words i) (c.cells-m.ensures.count i) (c.occupied-k.ensures.words i)
+    (c.occupied-k.ensures.count i) (c.emptied-l.ensures.words i) (c.emptied-l.ensures.count i))
     ∙ point8-is w

@@ -20,13 +20,13 @@ records_right-requires c =
     let n = i in
     let e = n in
     let s = e in
-    let w = s.args.state.now in
-    let t = tables w s.requires.0 s.requires.2 in (
-      omega (arith, entities-there w s.requires.0 s.requires.1, n.count_at-n.ensures, ap length e.entity_words-ents.ensures),
-      (λ j. is_table4 id_width (k.count_at-k.ensures j) (i.id_words-ids.ensures j)) ∙ t.ids-table,
-      omega (arith, t.few-ids, k.count_at-k.ensures),
-      ap length g.group_words-groups.ensures ∙ groups-long w s.requires.0,
-      (λ j. all (has same (keys (table4 id_width (k.count_at-k.ensures j) (i.id_words-ids.ensures j)))) (values (entities_in (n.count_at-n.ensures j) (e.entity_words-ents.ensures j)))) ∙ all-with-id w s.requires.0 s.requires.2,
+    let w = s.args.state.now.words.now in
+    let t = tables w s.args.state.now.long s.requires.1 in (
+      omega (arith, entities-there w s.args.state.now.long s.requires.0, n.entities-n.ensures.count, ap length e.entities-n.ensures.words),
+      (λ j. is_table4 id_width (k.ids-k.ensures.count j) (i.ids-k.ensures.words j)) ∙ t.ids-table,
+      omega (arith, t.few-ids, k.ids-k.ensures.count),
+      ap length g.groups-g.ensures.words ∙ groups-long w s.args.state.now.long,
+      (λ j. all (has same (keys (table4 id_width (k.ids-k.ensures.count j) (i.ids-k.ensures.words j)))) (values (entities_in (n.entities-n.ensures.count j) (e.entities-n.ensures.words j)))) ∙ all-with-id w s.args.state.now.long s.requires.1,
     )
 
 pub returns : goal.returns
@@ -38,5 +38,5 @@ returns c =
     let n = i in
     let e = n in
     c.records_right.ensures
-    ∙ (λ j. records_right (e.entity_words-ents.ensures j) (n.count_at-n.ensures j) (i.id_words-ids.ensures j) (k.count_at-k.ensures j) (g.group_words-groups.ensures j) (h.count_at-g.ensures j))
-    ∙ point5-is e.args.state.now
+    ∙ (λ j. records_right (e.entities-n.ensures.words j) (n.entities-n.ensures.count j) (i.ids-k.ensures.words j) (k.ids-k.ensures.count j) (g.groups-g.ensures.words j) (h.groups-g.ensures.count j))
+    ∙ point5-is e.args.state.now.words.now

@@ -13,10 +13,9 @@ use Rattle.model.proofs.Theorems.PathExact.{path-unoccupied}
 use Rattle.std.specs.Prelude.{Err}
 use Rattle.table.specs.Rows.{place_of, table4}
 use Rattle.layout.specs.Widths.{cell_width, answer_width}
-use Rattle.neighbourhood.specs.Rows.{row_cell}
 use Rattle.neighbourhood.specs.Standing.{Cells}
 use Rattle.path.specs.Walks.{cells_of, shown_rows, Walked}
-use Rattle.path.specs.Laws.Walking.{no_cells, some-cells}
+use Rattle.path.specs.Laws.Walking.{some-cells}
 use Rattle.refusal.specs.Forms.{no_path}
 use Rattle.told.specs.Told.{refused}
 use Rattle.lists.specs.Told.{listed, there, path_from}
@@ -34,10 +33,6 @@ module _ {kind : ℕ} (words : List ℕ) (n : ℕ) (t : List (Cell × ℕ)) (k :
       ap (λ (o : Option (List Cell)). path_from o answer) (sym (path-unoccupied (touch_at kind) (keys t) a b (inr (of-hasnt cells (keys t) (T_false (missing_has words n t k b i e))))))
 
   module _ (from to : ℕ) (space space' : List ℕ) (r : ℕ) (w : Walked kind words n from to space r space' t) (answer : List ℕ) where
-    -- No cell is written.
-    pub path-no : r ≡ 0 → (refused no_path, answer) ≡ path_from (shown_rows kind words t from to) answer
-    path-no e = ap (λ (o : Option (List Cell)). path_from o answer) (sym (no_cells (touch_at kind) (keys t) (row_cell words from) (row_cell words to) (sym w.number ∙ e)))
-
     -- The cells that are written are given.
     pub path-yes : (r ≡ 0 → ⊥) → answer_width * r ≤ length space' → listed true r (take (answer_width * r) space') answer ≡ path_from (shown_rows kind words t from to) answer
     path-yes h g =

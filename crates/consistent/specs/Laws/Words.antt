@@ -32,7 +32,7 @@ use Rattle.layout.proofs.Laws.Standing.{image-stands}
 use Rattle.layout.proofs.Laws.Orderly.{orderly-out}
 use Rattle.layout.proofs.Theorems.Canonical.{consistent-image}
 use Rattle.neighbourhood.specs.Standing.{Cells}
-use Rattle.ask.specs.Laws.Ways.{Sure}
+use Rattle.consistent.specs.Laws.Sure.{Sure}
 
 -- Tidy rows are few.
 tidy-few : (wide most n : ℕ) (s : List ℕ) → tidy wide most n s ≡ true → n ≤ most
