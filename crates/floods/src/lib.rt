@@ -56,6 +56,7 @@ fn queue_flood(
     ensures { (kind : ℕ) → Cells kind cells.now n (cells_in n cells.now) → Visits cells.now n queue.new result (whole_flood (touch_at kind) (flood_cells (depth_of depth) (row_cell cells.now seed) (keys (cells_in n cells.now))) (row_cell cells.now seed)) }
 {
     leave_out(cells, n, seed, depth, marks);
+    // 0 is how many rows are queued.
     if marks[seed] != 0 {
         return 0;
     }

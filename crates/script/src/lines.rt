@@ -94,7 +94,7 @@ fn marked_line(out: &mut [u8], mark: u8, grid: u64, x: u64, y: u64, z: u64) -> u
     little_endian::put_byte(out, at, b'\n')
 }
 
-// A cell became occupied.
+// A cell became occupied. This line and the next are calls of their own; what they share is `marked_line`.
 pub fn entered_line(out: &mut [u8], grid: u64, x: u64, y: u64, z: u64) -> usize
     ensures { (result, out.new) ≡ line_of (entered_line grid x y z) out.old }
 {

@@ -16,7 +16,7 @@ fn widen(n: u64) -> u64
     }
 }
 
-// The length of a record by the second byte of its mark.
+// The length of a record by the second byte of its mark; 0 where there is no such mark, as the definition has it.
 fn length_of(mark: u8) -> usize
     ensures { result ≡ length_of mark }
 {

@@ -37,7 +37,7 @@ fn read(s: &[u8], n: usize, two: bool, grid: u64) -> Result<Option<Settings>, Re
     read_in(&s[..n], two, grid)
 }
 
-// What a reader of version 1 says of the first n bytes of a slice.
+// What a reader of version 1 says of the first n bytes of a slice. The two readers are calls of their own; what they share is `read`.
 pub fn read_v1(s: &[u8], n: usize, grid: u64) -> Result<Option<Settings>, ReadError>
     ensures { result ≡ read_of false s.now n grid }
 {

@@ -18,7 +18,7 @@ fn home(grid: u64, places: usize) -> usize
     (spread % (places as u64 / 16 * 15 + 1)) as usize
 }
 
-// The first place from a grid's home on that is free or has the grid; the number of places where there is none.
+// The first place from a grid's home on that is free or has the grid; the number of places where there is none, as `Probed` says it.
 pub fn place_of(t: &[u64], grid: u64) -> usize
     ensures { Probed t.now grid result }
 {

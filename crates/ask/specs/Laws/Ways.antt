@@ -1,6 +1,6 @@
 -- The refusals, one after the other.
 use Rattle.std.specs.Prelude.{ℕ, ◌≡◌, Result, Ok, Err, Bool, cond, not, List, eqb}
-use Rattle.std.proofs.Common.{arith, sym, ap, ◌∙◌, eqb→eq}
+use Rattle.std.proofs.Common.{arith, sym, ap, ◌∙◌, eqb→eq, ne_eqb}
 use Rattle.std.proofs.Math.Path.{refl}
 use Rattle.std.proofs.Math.Bool.{true, false}
 use Rattle.component.specs.declared.CellId.{CellId}
@@ -11,6 +11,7 @@ use Rattle.component.specs.Laws.Range.{range-of-stored}
 use Rattle.refusal.specs.Forms.{Refused}
 use Rattle.refusal.specs.declared.Refusal.{Refusal}
 use Rattle.refusal.specs.Forms.{form, none, too_short, broken, out_of_range}
+use Rattle.refusal.proofs.Theorems.{form-refuses}
 use Rattle.model.proofs.Laws.Tests.{neqb→ne, T_true, T_false}
 use Rattle.layout.specs.Points.{long_enough, consistent_words, first_broken}
 use Rattle.std.specs.Result.{IsErrAnd}
@@ -35,20 +36,7 @@ ranged at c = ranged_by at c (coord_in_range c.coord)
 
 -- No refusal has the number 0.
 form-some : (r : Refusal) → eqb (form r).number 0 ≡ false
-form-some Refusal.TooShort = refl
-form-some (Refusal.Broken p) = refl
-form-some Refusal.TooManyEvents = refl
-form-some (Refusal.OutOfRange at axis) = refl
-form-some Refusal.FewIds = refl
-form-some Refusal.TooManyEntities = refl
-form-some Refusal.TooManyCells = refl
-form-some (Refusal.TooLong k) = refl
-form-some (Refusal.BadCoordinate axis) = refl
-form-some Refusal.BadError = refl
-form-some Refusal.BadEdge = refl
-form-some (Refusal.BadOrigin axis) = refl
-form-some Refusal.NoPath = refl
-form-some Refusal.UnknownKind = refl
+form-some r = ne_eqb (form r).number 0 (form-refuses r)
 
 module _ {A : Type 0} (s : Refused) (refuse : Refused → A) (answer : A) where
   -- After a refusal nothing is answered.

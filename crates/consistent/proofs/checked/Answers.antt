@@ -1,24 +1,11 @@
 -- Too few words, or what the first broken point says.
-use native.Mathlib.Omega.{arith}
-use mathlib.Core.Path.{◌≡◌, refl, sym, ap, ◌∙◌}
+use mathlib.Core.Path.{refl, sym, ap, ◌∙◌}
 use lib.Dec.{eqb}
-use Rattle.refusal.specs.declared.Point.{Point}
 use Rattle.refusal.specs.Forms.{point_number}
+use Rattle.refusal.proofs.Theorems.{point-counts}
 use Rattle.consistent.specs.Answer.{broken_number}
 use Rattle.consistent.specs.Laws.Ways.{too-short, unbroken-way, broken-way, short-words, long-words}
 use Rattle.consistent.proofs.checked.Goals as goal
-
--- No point has the number 0.
-some-point : (p : Point) → point_number p ≡ 0 → ⊥
-some-point Point.Entities e = omega (arith, e)
-some-point Point.Cells e = omega (arith, e)
-some-point Point.Masks e = omega (arith, e)
-some-point Point.Ids e = omega (arith, e)
-some-point Point.Records e = omega (arith, e)
-some-point Point.NextId e = omega (arith, e)
-some-point Point.Coordinates e = omega (arith, e)
-some-point Point.Nets e = omega (arith, e)
-some-point Point.Kind e = omega (arith, e)
 
 pub returns-then-state-state_len-clause-answer : goal.returns-then-state-state_len-clause-answer
 returns-then-state-state_len-clause-answer c =
@@ -33,7 +20,7 @@ returns-in-None-clause-answer c =
 pub returns-in-Some-clause-answer : goal.returns-in-Some-clause-answer
 returns-in-Some-clause-answer c =
     let w = c.args.state.now in
-    broken-way w (long-words w c.state_len.result c.state_len.ensures c.if-state-state_len.false) (point_number c.in-Some.point) (ap broken_number (sym c.in-Some.is) ∙ c.first_broken.ensures) (some-point c.in-Some.point)
+    broken-way w (long-words w c.state_len.result c.state_len.ensures c.if-state-state_len.false) (point_number c.in-Some.point) (ap broken_number (sym c.in-Some.is) ∙ c.first_broken.ensures) (point-counts c.in-Some.point)
 
 pub invariant_of-result : goal.invariant_of-result
 invariant_of-result c =
