@@ -18,7 +18,7 @@ use layout::{
     CELL_ID, GROUP_CELLS, GROUP_ENTITIES, GROUP_GRID, GROUP_HIGH, GROUP_LOW, GROUP_WIDTH, ID_WIDTH,
     NET_WIDTH, neighbour_of,
 };
-use table::{cell_at, contains, find, find_near, index, put, write_row, write_zeros};
+use table::{cell_at, contains, find, find_near, index, put, write_zeros};
 
 // The number of rows goes beside the words: each method of a struct that held both would have to say that it still lends the same words.
 
@@ -225,10 +225,8 @@ fn copy_row(ids: &mut [u64], i: usize, j: usize)
     requires { (j ≤ i) × (id_width * i + id_width ≤ length ids.old) }
     ensures { ids.new ≡ over ids.old (id_width * j) (words_of (row_in ids.old i ∷ [])) }
 {
-    // Not copy_within, for which the library for C would need memmove from outside.
-    let c = cell_at(ids, ID_WIDTH * i);
-    let row = [c.grid, c.z, c.y, c.x, ids[ID_WIDTH * i + CELL_ID]];
-    write_row(ids, ID_WIDTH * j, &row);
+    let at = ID_WIDTH * i;
+    ids.copy_within(at..at + ID_WIDTH, ID_WIDTH * j);
 }
 
 // The rows of cells that are not emptied are moved to the front; the answer is their number.

@@ -11,7 +11,7 @@ use crate::records::{check, grid_of, settings_of, size_of};
 pub fn read_in(bytes: &[u8], two: bool, grid: u64) -> Result<Option<Settings>, ReadError>
     ensures { result ≡ tell grid (records_of two bytes.now) }
 {
-    let mut held = None;
+    let mut held: Option<&[u8]> = None;
     let mut at = 0;
     // A while: how far the next record is stands in the record.
     while at < bytes.len() {
@@ -20,10 +20,14 @@ pub fn read_in(bytes: &[u8], two: bool, grid: u64) -> Result<Option<Settings>, R
         let size = size_of(rest);
         at += size;
         if grid_of(rest) == grid {
-            held = Some(settings_of(&rest[..size]));
+            held = Some(&rest[..size]);
         }
     }
-    Ok(held)
+    // The settings are made once, of the last record.
+    match held {
+        Some(record) => Ok(Some(settings_of(record))),
+        None => Ok(None),
+    }
 }
 
 // What a reader of version 2, or of version 1, says of the first n bytes of a slice. The length stands beside the slice, since one

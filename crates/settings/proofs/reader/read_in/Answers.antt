@@ -1,8 +1,10 @@
 -- The invariant: what is still to be told, with the record held so far, is what is to be told of all bytes.
 -- The record at the place is fine, so it lies within the bytes.
 use Rattle.settings.proofs.Answering.{err-of, fine-of, fault-of}
-use Rattle.settings.proofs.ReadingSteps.{seen-found, told-seen, left-start, left-bad, fits, left-held, left_other, left_end}
-use Rattle.std.specs.Prelude.{Option, Ok, Err, Some, []}
+use Rattle.settings.proofs.ReadingSteps.{seen, seen-found, told-seen, left-start, left-bad, fits, left-held, left_other, left_end}
+use Rattle.std.specs.Prelude.{Option, Ok, Err, Some, List, ℕ, []}
+use Rattle.std.proofs.lemmas.Option.{MatchOption-at_some, MatchOption-at_none}
+use Rattle.settings.specs.Records.{settings_of}
 use Rattle.settings.specs.declared.kinds.Settings.{Settings}
 use Rattle.settings.specs.declared.kinds.ReadError.{ReadError}
 use Rattle.settings.specs.declared.kinds.ReadError.TheVariants as reading_error
@@ -40,8 +42,8 @@ grid_of-requires c =
     let a = c.args in
     (fits a.two a.grid a.bytes.now c.loop-at.at c.size_of-size.result c.loop-at-test.true (sym c.check.ensures ∙ fine-of c.in_ok-map_err.ensures.variant) c.size_of-size.ensures).2
 
-pub slice_bounds-settings_of-end : goal.slice_bounds-settings_of-end
-slice_bounds-settings_of-end c =
+pub slice_bounds-held-end : goal.slice_bounds-held-end
+slice_bounds-held-end c =
     let a = c.args in
     let f = fits a.two a.grid a.bytes.now c.loop-at.at c.size_of-size.result c.loop-at-test.true (sym c.check.ensures ∙ fine-of c.in_ok-map_err.ensures.variant) c.size_of-size.ensures in
     let w = take (length a.bytes.now - c.loop-at.at) (drop c.loop-at.at a.bytes.now) in
@@ -49,16 +51,6 @@ slice_bounds-settings_of-end c =
     let n = length-drop c.loop-at.at a.bytes.now in
     let l = length-take-le c.size_of-size.result w (omega (arith, f.1)) in
     sym l
-
-pub settings_of-requires : goal.settings_of-requires
-settings_of-requires c =
-    let a = c.args in
-    let f = fits a.two a.grid a.bytes.now c.loop-at.at c.size_of-size.result c.loop-at-test.true (sym c.check.ensures ∙ fine-of c.in_ok-map_err.ensures.variant) c.size_of-size.ensures in
-    let w = take (length a.bytes.now - c.loop-at.at) (drop c.loop-at.at a.bytes.now) in
-    let d = length-take (length a.bytes.now - c.loop-at.at) (drop c.loop-at.at a.bytes.now) in
-    let n = length-drop c.loop-at.at a.bytes.now in
-    let l = length-take-le c.size_of-size.result w (omega (arith, f.1)) in
-    omega (arith, f.0)
 
 pub loop-at-smaller-then-grid_of-grid : goal.loop-at-smaller-then-grid_of-grid
 loop-at-smaller-then-grid_of-grid c =
@@ -78,7 +70,7 @@ loop-at-preserved-then-grid_of-grid c =
     let n = length-drop c.loop-at.at a.bytes.now in
     let l = length-take-le c.size_of-size.result w (omega (arith, f.1)) in
     let r = take c.size_of-size.result w in
-    (f.1, (r, ap (λ (x : Settings). Some x) c.settings_of.ensures ∙ seen-found r (omega (arith, f.0)), sym (left-held a.two a.grid a.bytes.now c.loop-at.at c.size_of-size.result i.0 t e c.size_of-size.ensures (sym c.grid_of.ensures ∙ c.if-grid_of-grid.true)) ∙ i.2))
+    (f.1, (r, (refl, omega (arith, f.0)), sym (left-held a.two a.grid a.bytes.now c.loop-at.at c.size_of-size.result i.0 t e c.size_of-size.ensures (sym c.grid_of.ensures ∙ c.if-grid_of-grid.true)) ∙ i.2))
 
 pub loop-at-smaller : goal.loop-at-smaller
 loop-at-smaller c =
@@ -95,11 +87,23 @@ loop-at-preserved c =
     let f = fits a.two a.grid a.bytes.now c.loop-at.at c.size_of-size.result t e c.size_of-size.ensures in
     (f.1, (i.0, i.1, sym (left_other a.two a.grid a.bytes.now c.loop-at.at c.size_of-size.result i.0 t e c.size_of-size.ensures (λ q. c.if-grid_of-grid.false (c.grid_of.ensures ∙ q))) ∙ i.2))
 
-pub returns : goal.returns
-returns c =
+pub returns-in-Some : goal.returns-in-Some
+returns-in-Some c =
     let a = c.args in
     let i = c.loop-at.invariant.1 in
-    ap (λ (o : Option Settings). Ok o) i.1
+    let h = MatchOption-at_some _ _ _ c.in-Some.is i.1 in
+    ap (λ (x : Settings). Ok (Some x)) (c.settings_of.ensures ∙ ap settings_of h.0)
+    ∙ ap (λ (o : Option Settings). Ok o) (seen-found i.0 h.1)
+    ∙ told-seen i.0
+    ∙ sym (left_end a.two a.grid a.bytes.now c.loop-at.at i.0 c.loop-at.invariant.0 c.loop-at-test.false)
+    ∙ i.2
+
+pub returns-in-None : goal.returns-in-None
+returns-in-None c =
+    let a = c.args in
+    let i = c.loop-at.invariant.1 in
+    let h = MatchOption-at_none _ _ c.in-None.is i.1 in
+    ap (λ (r : List ℕ). Ok (seen r)) (sym h)
     ∙ told-seen i.0
     ∙ sym (left_end a.two a.grid a.bytes.now c.loop-at.at i.0 c.loop-at.invariant.0 c.loop-at-test.false)
     ∙ i.2
